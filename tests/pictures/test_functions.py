@@ -14,7 +14,7 @@ from made_files import xmp as packet_of
 from studio import name_of
 
 from exifnorm_pictures import xmp
-from exifnorm_pictures.cli import names, output, parser
+from exifnorm_pictures.cli import letter, names, output, parser
 from exifnorm_pictures.cli.commands import report
 from exifnorm_pictures.cli.options import Files
 from exifnorm_pictures.comparison import differing
@@ -197,6 +197,7 @@ BOTH = [block("Exif"), block("second Exif", text="e", octets="p")]
 OCTETS_OF_BOTH = hashlib.sha256(b"Exif: o\nsecond Exif: p").hexdigest()
 LEAST, GREATEST = -(1 << 63), (1 << 63) - 1
 OWN = PictureRecord.of(b"/a", b"/", extractor="own")
+ODD = SimpleNamespace(is_odd=True, names=[b"x.jpg"], words=lambda: ["title: [-one-]{+two+}"])  # a group of one picture
 CLOSED = PictureRecord.of(b"/a\n/b", b"", problem="Unreadable", detail="permission denied")
 NOT_MADE = (block_record("failed", "OutOfMemory", None), block_record("too long", "NormalTooLong", None))
 IN_ORDER = "main 010f, exif 9003, gps 0001, thumb 0112, thumb ffff, thumb jpeg, thumb strip, iptc 2:5, iptc 2:25".split(", ")
@@ -280,6 +281,9 @@ RESULTS = [
     # a page begins with its type, in letters of either kind (HTML, 13.1.1)
     *((report._is_page, (it,), True) for it in (b"<!DOCTYPE html>", b"<!doctype HTML>")),
     *((report._is_page, (it,), False) for it in (b"<!DOCTYPE htm", b" <!DOCTYPE html>", b"")),
+    # the pictures of a night that changed like no other: 20 have their values, below a head and an empty line
+    (lambda groups: list(letter.letter("a", [], [], groups)), ([ODD] * 20,), ["a", "", *["  x.jpg title: [-one-]{+two+}"] * 20]),
+    (lambda groups: len([*letter.letter("a", [], [], groups)]), ([ODD] * 21,), 22),
 ]
 
 

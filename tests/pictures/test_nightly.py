@@ -538,7 +538,7 @@ def test_catalogues_of_several_days(archive, called, monkeypatch):
     assert night(29)[:2] == (0, "") and kept() == ["28", "29"]
     put(archive, {"web/0.jpg": picture(9, title="other", credit="Museum")})
     _, monday, _ = night(30)
-    assert "web/0.jpg title (IPTC): {+other+}\n" in monday
+    assert "web/0.jpg title (IPTC): [-8-]{+other+}\n" in monday
     command = monday.partition("exifnorm-pictures ")[2].split()
     assert command == ["changed", "--each", "c.catalogue.2026-11-29", "c.catalogue.2026-11-30"]
     answer = called(*command)

@@ -23,10 +23,11 @@ def scan(number, caption):
     return jpeg(app1(block([entry(0x010E, ASCII, 4, int.from_bytes(caption.encode() + b"\0", "big"))])), base=base)
 
 
-def archive(folder, count):
+def archive(folder, count, seconds=1):
+    """Some scans, each of a later time."""
     put(folder / "in", {name: scan(number, f"n{number}x") for number, name in enumerate(NAMES[:count])})
     for number, name in enumerate(NAMES[:count]):
-        os.utime(folder / "in" / name, ns=(10**18 + number * 10**9,) * 2)
+        os.utime(folder / "in" / name, ns=(10**18 + number * seconds * 10**9,) * 2)
 
 
 def move(folder, moves):
@@ -42,11 +43,11 @@ def results(printed):
     return {it["path"]: (it["result"], it["moved_to"] and it["moved_to"]["path"]) for it in records if it["record"] == "picture"}
 
 
-@pytest.mark.parametrize("pixels", [[], ["--pixels"]], ids=["", "pixels"])
+@pytest.mark.parametrize("pixels, seconds", [([], 1), (["--pixels"], 1), ([], 0)], ids=["", "pixels", "of one time"])
 @pytest.mark.parametrize("name", MOVES)
-def test_renumbered(name, pixels, folder, called):
+def test_renumbered(name, pixels, seconds, folder, called):
     moves = MOVES[name]
-    archive(folder, len(moves))
+    archive(folder, len(moves), seconds)
     night = ("nightly", "in", "--catalogue", "nights", *pixels)
     called(*night)
     called("index", "in", "--catalogue", "first", "--quiet", *pixels)
@@ -56,7 +57,8 @@ def test_renumbered(name, pixels, folder, called):
     assert not any(word in printed for word in ("gone", "new:", "another")), printed
     status, printed, _ = called("changed", "first", "nights", "--json")
     assert status == 1 and results(printed) == {old: ("renumbered", new) for old, new in moves.items()}
-    assert f"{len(moves)} pictures compared: {len(moves)} renumbered." in called("changed", "first", "nights")[1]
+    words = f"{len(moves)} pictures compared: {len(moves)} renumbered.", f"The coded pictures: {len(moves)} the same."
+    assert [it in called("changed", "first", "nights")[1] for it in words] == [True, bool(pixels)]
     (_, state) = map(json.loads, called("changed", "--picture", "in/b.jpg", "first", "nights", "--json")[1].splitlines()[:2])
     assert state["result"] == "renumbered", state
     if pixels:

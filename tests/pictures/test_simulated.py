@@ -48,6 +48,7 @@ class Archive:
     def begin(self):
         """A night in which nothing has happened yet."""
         self.before = dict(self.files)
+        self.inodes = {name: os.stat(self.path(name)).st_ino for name in self.files}
         self.fates = {name: name for name in self.files}
         self.free = self.chance.sample(sorted(self.files), len(self.files))
 
@@ -167,15 +168,11 @@ class Archive:
             self.put_in_turn([name], [self.name()])
             self.write(self.fates[name], self.files[self.fates[name]]._replace(caption=next(self.numbers) % 1000))
 
-    def do_swap(self):
-        names = [it for it in (self.take(), self.take()) if it]
-        if len(names) == 2 and self.files[names[0]] != self.files[names[1]]:
-            self.put_in_turn(names, names[::-1])
-
-    def do_renumber(self):
-        names = [it for it in (self.take(), self.take(), self.take()) if it]
-        if len(names) == 3 and len({self.files[it] for it in names}) == 3:
-            self.put_in_turn(names, [*names[1:], self.name()])
+    def do_swap_or_renumber(self):
+        count = self.chance.choice((2, 3))
+        names = [it for it in (self.take() for _ in range(count)) if it]
+        if count == len(names) == len({self.files[it] for it in names}):
+            self.put_in_turn(names, [*names[1:], names[0] if count == 2 else self.name()])
 
     def do_copy(self):
         if name := self.take(False):
@@ -202,6 +199,11 @@ class Archive:
         old, fate = self.before[name], self.fates[name]
         if fate == name:
             return {(result_of(old, self.files[name], pixels), None)}
+        fates = [self.fates[it] for it, inode in self.inodes.items() if inode == self.inodes[name] and self.fates[it] != it]
+        return set().union(*(self.left_for(fate, name, old, pixels) for fate in fates))  # hard links are names of one file
+
+    def left_for(self, fate, name, old, pixels):
+        """The same of a file that left its name, and is at `fate` now."""
         twins = {it for it, file in self.files.items() if it not in self.before and file == old}
         moved = {("moved", it) for it in twins}
         if fate is None:
@@ -245,7 +247,7 @@ STATES = {
     "damaged": ("cut off",),
     "damaged and different": ("cut off", "other picture", "other file", "DAMAGED"),
     "damaged before": (None, "as they were", "other picture", "other file", "DAMAGED", "written again"),
-    "missing after": ("missing", "moved"),
+    "missing after": ("missing", "moved", "renumbered"),
     "moved": ("moved", "missing"),
     "moved and edited": ("moved", "missing"),
     "renumbered": ("moved", "renumbered"),
@@ -255,7 +257,7 @@ STATES = {
 @pytest.mark.parametrize("seed", range(4))
 def test_nights(seed, folder, called):
     chance = random.Random(seed)
-    words = [[], ["--pixels"], ["--pixels", "--sidecars"], ["--pixels"]][seed]
+    words = [[], ["--pixels"], ["--pixels", "--sidecars"]][seed % 3]
     archive = Archive(str(folder / "in"), chance, "--sidecars" in words)
     pixels = "--pixels" in words
     called("nightly", "in", "--catalogue", "c", *words)

@@ -7,7 +7,6 @@ from itertools import groupby
 from typing import Iterator, Sequence
 
 from ..comparison.changed.edit_groups import Group
-from ..comparison.changed.edit_words import line_of
 from ..comparison.nightly.news import Kind, News
 from ..comparison.wording import moved
 from ..model.texts import escaped, pictures_in_words, safe, whole_path
@@ -15,6 +14,7 @@ from .columns import width
 
 LINES, COLUMNS = 30, 80
 OF_KIND = 5  # lines of one kind of news
+EDITS = 20  # lines with the values before and after
 
 # What is said of one picture, and of several; {} is what the news is about
 _SAID = """
@@ -54,8 +54,8 @@ def letter(head: str, news: Sequence[News], end: Sequence[str], groups: Sequence
     yield from lines[: room if len(lines) <= room else room - 1]
     if len(lines) > room:
         yield f"  .. and {len(lines) - room + 1:,} more lines, which changed --each has"
-    rows = [line for it in groups[:LINES] for line in _of_edits(it)]
-    rows = rows[: max(room - len(lines) - 1, 0)]
+    rows = [line for it in groups[:EDITS] for line in _of_edits(it)]
+    rows = rows[: min(max(room - len(lines) - 1, 0), EDITS)]
     yield from [""] * bool(rows)
     yield from rows
     if end:
@@ -65,7 +65,7 @@ def letter(head: str, news: Sequence[News], end: Sequence[str], groups: Sequence
 
 def _of_edits(group: Group) -> list[str]:
     """Pictures that were edited alike, in a line; of one that changed like no other each edit."""
-    edits = [safe(line_of(it)) for it in group.edits]
+    edits = [safe(it) for it in group.words()]
     if group.is_odd:
         name = _from_behind(whole_path(group.names[0]), COLUMNS // 3)
         return [cut(f"  {name} {it}") for it in edits]

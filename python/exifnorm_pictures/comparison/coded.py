@@ -20,7 +20,7 @@ class Coded(Word):
     @property
     def is_damaged(self) -> bool:
         """Whether a file is damaged."""
-        return self in (Coded.DAMAGED, Coded.DAMAGED_BEFORE, Coded.DAMAGED_BOTH)
+        return self.startswith("damaged")
 
     SAME = ("the same", "The pictures are the same: the data from which their pixels are decoded are equal.")
     BESIDE = ("the same but for other parts", f"{SAME[1]} Other parts of the files differ")  # which `compare` names

@@ -121,10 +121,10 @@ class Group:
         """In how many pictures each edit was in which standard."""
         return [it.places for it in self.counted]
 
-    def words(self) -> str:
+    def words(self) -> list[str]:
         """Its edits in words, of one picture with the text around them."""
         edits = self.firsts[0][1] if self.is_odd else self.edits
-        return "\n".join(line_of(it, self.is_odd) for it in edits)
+        return [line_of(it, self.is_odd) for it in edits]
 
     def show_exactly(self, mark: str = "") -> None:
         """Writes characters that don't show as numbers, and a mark behind the names of edits."""
@@ -262,7 +262,7 @@ class _Joins:
 
 def _alike(groups: Sequence[Group]) -> list[Group]:
     """The groups whose edits look alike in words."""
-    looks = [look(it.words()) for it in groups]
+    looks = [look("\n".join(it.words())) for it in groups]
     counts = Counter(looks)
     return [it for it, one in zip(groups, looks) if counts[one] > 1]
 

@@ -101,6 +101,7 @@ class Pair(NamedTuple):
     is_sure: bool = True  # whether a move is known by the file itself, and not by what it has
     is_partner: bool = False  # the new picture is the one with the same stem
     is_unclear: bool = False  # it has one of several
+    coded: Coded = Coded.UNKNOWN  # of a picture that is elsewhere as it was
 
 
 def shown_form(name: bytes) -> bytes:
@@ -229,11 +230,14 @@ class Pairs(Sides):
                 self.base.execute(_NOT_RENUMBERED)
 
     def _query_taken(self) -> str:
-        """A query for the numbers of the pictures under one name that are two files."""
+        """A query for the numbers of the pictures under one name that are two files. Some systems count times in seconds, so scans of one size
+        may have one time, too; then the inode tells them apart, where the blocks are others."""
         return (
             f"SELECT old.id, new.id FROM before.pictures AS old JOIN after.pictures AS new ON new.path = {self._other_path(BEFORE)}"
             " WHERE old.problem IS NULL AND new.problem IS NULL AND CASE WHEN old.sha256 != '' AND new.sha256 != ''"
-            " THEN old.sha256 != new.sha256 OR old.xmp_octets IS NOT new.xmp_octets ELSE old.size != new.size OR old.modified != new.modified END"
+            " THEN old.sha256 != new.sha256 OR old.xmp_octets IS NOT new.xmp_octets ELSE old.size != new.size OR old.modified != new.modified"
+            " OR old.inode != new.inode AND"
+            " (old.exif_octets, old.iptc_octets, old.xmp_octets) IS NOT (new.exif_octets, new.iptc_octets, new.xmp_octets) END"
         )
 
     def _match(self) -> None:
@@ -287,7 +291,8 @@ class Pairs(Sides):
         columns = ", ".join(f"{alias}.{it}" for alias in _ALIASES for it in PICTURES.names)
         query = (
             f"SELECT {columns}, old.id IN (SELECT id FROM main.unclear_before), place.path, moved.new, moved.is_edited, moved.is_sure,"
-            " old.id IN (SELECT old FROM taken) OR moved.new IN (SELECT new FROM taken) FROM before.pictures AS old"
+            f" old.id IN (SELECT old FROM taken) OR moved.new IN (SELECT new FROM taken), {SQL.replace('new.', 'place.')}"
+            " FROM before.pictures AS old"
             " LEFT JOIN main.moved ON moved.old = old.id LEFT JOIN after.pictures AS place ON place.id = moved.new"
             f" LEFT JOIN after.pictures AS new ON new.path = {self._other_path(BEFORE)} AND {_is_there('new')}"
             " AND moved.old IS NULL AND new.id NOT IN (SELECT new FROM moved)"
@@ -296,7 +301,7 @@ class Pairs(Sides):
         yield from self._rows(query, self._pair_of_row)
 
     def _pair_of_row(self, row: tuple[object, ...]) -> Pair:
-        name, place, moved, is_edited = self._named(BEFORE, row[1]), *row[-5:-2]
+        name, place, moved, is_edited = self._named(BEFORE, row[1]), *row[-6:-3]
         to = None if place is None else self._named(AFTER, place)
         is_one = to is not None and shown_form(to) == shown_form(name)
         is_read = bool(is_edited or is_one)  # whether the picture under the other name is compared
@@ -331,10 +336,11 @@ class Pairs(Sides):
         return next(self._rows(query, lambda row: int(row[0])))
 
     def coded(self) -> "Counter[Coded]":
-        """How many pictures that are on both sides have the same coded picture, another one, and so on."""
+        """How many pictures that are on both sides, perhaps elsewhere, have the same coded picture, another one, and so on."""
         pictures = (
-            f"FROM before.pictures AS old JOIN after.pictures AS new ON new.path = {self._other_path(BEFORE)}"
-            f" WHERE old.problem IS NULL AND new.problem IS NULL AND {self._is_chosen(BEFORE)} AND old.id NOT IN (SELECT old FROM moved)"
+            "FROM before.pictures AS old LEFT JOIN moved ON moved.old = old.id JOIN after.pictures AS new"
+            f" ON new.id = ifnull(moved.new, (SELECT id FROM after.pictures WHERE path = {self._other_path(BEFORE)}))"
+            f" WHERE old.problem IS NULL AND new.problem IS NULL AND {self._is_chosen(BEFORE)} AND moved.is_edited IS NOT {_PARTNER}"
         )
         result = f"'{Coded.UNKNOWN}'"
         if any(self._has(base, "damage != ''") for base in _BASES) or all(
@@ -382,8 +388,8 @@ class Pairs(Sides):
 
 def _without_pictures(name: bytes, to: bytes | None, row: tuple[object, ...]) -> Pair:
     """A picture that isn't there, or is elsewhere as it was."""
-    is_unclear, is_sure, is_renumbered = (bool(row[at]) for at in (-6, -2, -1))
-    return Pair(name, None, None, to, to is not None and is_renumbered, is_sure, is_unclear=is_unclear)
+    is_unclear, is_sure, is_renumbered = (bool(row[at]) for at in (-7, -3, -2))
+    return Pair(name, None, None, to, to is not None and is_renumbered, is_sure, is_unclear=is_unclear, coded=Coded(str(row[-1])))
 
 
 def _is_there(alias: str) -> str:

@@ -134,10 +134,11 @@ def _alone(pair: Pair, result: Result) -> Result:
 
 def _moved(pair: Pair) -> Compared:
     """A picture under another name that is as it was."""
+    moved = Compared(pair.name, Result.MOVED, moved_to=pair.place, picture=pair.coded)
     if not pair.is_renumbered:
-        return Compared(pair.name, Result.MOVED, moved_to=pair.place)
+        return moved
     note = "" if pair.is_sure else "probably: not the file, but what it has is the same"
-    return Compared(pair.name, Result.RENUMBERED, note, moved_to=pair.place)
+    return moved._replace(result=Result.RENUMBERED, note=note)
 
 
 def _unless_untouched(found: Compared, old: PictureRecord, new: PictureRecord, place: bytes | None) -> Compared:
