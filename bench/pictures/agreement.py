@@ -2,20 +2,23 @@
 
     python3 bench/pictures/agreement.py FOLDER
 
-It reads each picture that is read as a whole by `exifnorm.read` and by `exiftool -j -n -struct -G1:4 -a`, and prints for each form of a value how
-many agree, and each value that differs. Offsets of image data, MakerNotes and attributes of packets are left out, as in printed.py.
+It reads each picture by `exifnorm.read`, without other programs, and by `exiftool -j -n -struct -G1:4 -a`, and prints for each form of a value
+that both have how many agree, and each value that differs, with who is right. Offsets of image data, MakerNotes and attributes of packets are left
+out, as in printed.py. What only ExifTool has is listed of pictures that are read as a whole.
 """
 
 from __future__ import annotations
 
 import collections
 import contextlib
+import hashlib
 import json
 import re
 import subprocess
 import sys
 from datetime import date, datetime, time
 from fractions import Fraction
+from pathlib import Path
 from typing import Any, Dict, Iterator, List, Tuple
 
 import exifnorm
@@ -25,11 +28,24 @@ BLANK = " \0\n\r\t"
 BOOLEANS = {"true": "True", "false": "False"}
 WHY = {  # of a value that differs, by its name and by what both have: who is right
     "bytes that ExifTool decodes; both are right": re.compile("CFAPattern|RawDataUniqueID|Thumbnails"),
+    "a thumbnail that goes on beyond its block; ExifTool": re.compile("ThumbnailImage"),
     "a number over 65,535 for ColorSpace, which ExifTool cuts; both": re.compile("ColorSpace"),
-    "IPTC in UTF-8 that isn't declared; exifnorm": re.compile("^IPTC.*\u00c3"),
-    "a character set that isn't declared: a guess here, ? there; neither": re.compile(r"/ .*\?"),
+    "IPTC in UTF-8 that isn't declared; exifnorm": re.compile("^IPTC.*[\u00c2\u00c3]"),
+    "a character set that other parts of the file show, which ExifTool takes for Windows-1252; exifnorm": re.compile(
+        "Trübiger|^IPTC.*Kropáček"
+    ),
+    "a character set that isn't declared: a guess here, ? there; Field.guess marks it": re.compile(r"/ .*\?|Ronald Reagan"),
     "a date in another form than its standard's, kept as a text; both": re.compile("Date"),
-    "an exposure of 2 to the power of 2,147,483,648; both": re.compile("ShutterSpeedValue"),
+    "an exposure of 2 to the power of millions; both": re.compile("ShutterSpeedValue: Fraction"),
+    "a number with words or commas, kept as a text, of which ExifTool takes the first digits; exifnorm": re.compile(
+        r": ' ?\d+[,.] ?\d.*' / "
+    ),
+    "a property twice, of which ExifTool has the first; exifnorm": re.compile(
+        r"Interoperability|XMP-exif:Image(Width|Length): \(|xxxx:Test"
+    ),
+    "a structure of which ExifTool leaves out members; exifnorm": re.compile("RegionInfo"),
+    "a fraction with the denominator 0; exifnorm": re.compile("None"),
+    "no text in a field of texts, which ExifTool cuts at a NUL; both": re.compile("x00|XPAuthor"),
 }
 NUMBER = re.compile(r"[-+]?(\d+\.?\d*|\.\d+)(e[-+]?\d+)?", re.I)
 
@@ -80,19 +96,18 @@ def form(field: Any, theirs: Any) -> str:
         if clock and abs(sum(float(it) * n for it, n in zip(clock.groups(), (3600, 60, 1))) - 3600 * degrees) < 0.01:
             return "time"
     if isinstance(ours, Fraction) and NUMBER.fullmatch(str(theirs)):
-        powers = [2 ** (float(ours) / 2), 2 ** -float(ours)] if abs(ours) < 100 else []
+        powers = [2 ** (float(ours) / 2), 2 ** -float(ours)] if abs(ours) < 1000 else []
         if any(abs(it - float(theirs)) <= 1e-4 * max(abs(it), 1e-3) for it in powers):
             return "APEX"
     if parts(re.sub(r"(\d+)/(\d+)", divided, " ".join(texts(ours)))) == parts(theirs):
         return "a fraction as a text here"
     if parts([it.rpartition("/")[2] for it in texts(ours)]) == parts(theirs):
         return "a URI here, its end there"
-    if str(theirs).startswith("(Binary data"):
+    if str(theirs).startswith(("(Binary data", "(large array")):
         return "bytes"
-    if (
-        isinstance(ours, (datetime, date, time, str))
-        and re.sub("[-T:]", " ", str(ours)).split() == re.sub("[-T:]", " ", str(theirs)).split()
-    ):
+    if isinstance(ours, (datetime, date, time, str)) and re.sub("[-T:]", " ", str(theirs)).split() in [
+        re.sub("[-T:]", " ", it).split() for it in (str(ours), re.sub(":00(?=[+-])", "", str(ours)))
+    ]:
         return "date"
     if re.sub(r"\W", "", "".join(texts(ours))) == re.sub(r"\W", "", "".join(texts(theirs))):
         return "blanks, signs"
@@ -149,24 +164,29 @@ def main(found: List[Dict[str, Any]]) -> None:
     counts: "collections.Counter[str]" = collections.Counter()
     differ: "collections.Counter[str]" = collections.Counter()
     missing: "collections.Counter[str]" = collections.Counter()
+    seen = set()
     for printed in found:
         path = printed.pop("SourceFile")
+        digest = hashlib.sha256(Path(path).read_bytes()).digest()
+        if digest in seen:
+            continue
+        seen.add(digest)
         with contextlib.suppress(exifnorm.NoPicture, exifnorm.NotReadable, OSError), exifnorm.Reader(programs=False) as reader:
             picture = reader.read(path)
-            if not picture.is_whole or not len(picture):
-                continue
-            counts["pictures"] += 1
+            counts["pictures"] += bool(picture)
+            counts["read as a whole"] += bool(picture) and picture.is_whole
             for name, fields, values in pairs(picture, printed):
                 if not fields:
-                    missing[name] += 1
+                    missing[name] += picture.is_whole
                     continue
                 field = fields[0] if len(fields) == 1 else Several(fields)
                 way = form(field, values[0] if len(values) == 1 else values)
                 counts[way or "different"] += 1
                 if not way:
                     differ[f"{name}: {field.value!r:.90} / {values!r:.90}"] += 1
-    total = sum(counts.values()) - counts["pictures"]
-    print(f"{counts['pictures']} pictures, {total} values, {1 - counts['different'] / total:.4%} agree", dict(counts))
+    pictures, whole = counts.pop("pictures"), counts.pop("read as a whole")
+    total = sum(counts.values())
+    print(f"{pictures} pictures, {whole} read as a whole, {total} values, {1 - counts['different'] / total:.4%} agree", dict(counts))
     kinds: "collections.Counter[str]" = collections.Counter()
     for it, count in differ.items():
         kinds[next((why for why, pattern in WHY.items() if pattern.search(it)), "others")] += count
@@ -176,5 +196,21 @@ def main(found: List[Dict[str, Any]]) -> None:
 
 
 if __name__ == "__main__":
-    words = ["exiftool", "-config", "", "-q", "-j", "-n", "-struct", "-G1:4", "-a", "-EXIF:all", "-IPTC:all", "-XMP:all", "-r", sys.argv[1]]
-    main(json.loads(subprocess.run(words, stdout=subprocess.PIPE, check=False).stdout))
+    words = [
+        "exiftool",
+        "-config",
+        "",
+        "-q",
+        "-q",
+        "-j",
+        "-n",
+        "-struct",
+        "-G1:4",
+        "-a",
+        "-EXIF:all",
+        "-IPTC:all",
+        "-XMP:all",
+        "-r",
+        sys.argv[1],
+    ]
+    main(json.loads(subprocess.run(words, stdout=subprocess.PIPE, encoding="utf-8", errors="replace", check=False).stdout))

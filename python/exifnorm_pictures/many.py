@@ -7,6 +7,7 @@ import signal
 from collections import deque
 from concurrent.futures import Future, ProcessPoolExecutor
 from concurrent.futures.process import BrokenProcessPool
+from contextlib import suppress
 from itertools import islice
 from typing import Deque, Iterable, Iterator, Sequence, Union
 
@@ -55,50 +56,29 @@ def _result(path: PathLike, session: Session) -> Result:
 
 
 def _results(paths: Sequence[PathLike]) -> list[Result]:
-    with Session() as session:  # one ExifTool for all of them, if they need it
-        return [_result(path, session) for path in paths]
-
-
-class _Task:
-    """Some paths that a process has got."""
-
-    def __init__(self, paths: Sequence[PathLike], pool: ProcessPoolExecutor) -> None:
-        self.paths = paths
-        self.future: "Future[list[Result]] | None" = None
-        try:
-            self.future = pool.submit(_results, paths)
-        except BrokenProcessPool:  # whose process died meanwhile
-            pass
-
-    def results(self) -> list[Result] | None:
-        """The results, in their order; None if a process died before they were there."""
-        try:
-            return self.future.result() if self.future else None
-        except BrokenProcessPool:
-            return None
+    return [result for _, result in _here(paths)]
 
 
 def _in_processes(paths: Iterator[PathLike], count: int) -> Iterator[tuple[PathLike, Result]]:
-    tasks: Deque[_Task] = deque()
+    chunks = iter(lambda: list(islice(paths, CHUNK)), [])
+    due: Deque[tuple[list[PathLike], "Future[list[Result]] | None"]] = deque()
     pool = _pool(count)
     try:
         while True:
-            for _ in range(AHEAD * count - len(tasks)):
-                chunk = list(islice(paths, CHUNK))
-                if not chunk:
-                    break
-                tasks.append(_Task(chunk, pool))
-            if not tasks:
-                return
-            task = tasks.popleft()
-            results = task.results()
-            if results is not None:
-                yield from zip(task.paths, results)
+            with suppress(BrokenProcessPool):
+                for chunk in islice(chunks, AHEAD * count - len(due)):
+                    due.append((chunk, None))  # if a process has died meanwhile
+                    due[-1] = chunk, pool.submit(_results, chunk)
+                if not due:
+                    return
+                chunk, future = due[0]
+                yield from zip(chunk, future.result() if future else [])
+                due.popleft()
                 continue
             pool.shutdown()
-            for unfinished in (task, *tasks):
-                yield from zip(unfinished.paths, unfinished.results() or map(_alone, unfinished.paths))
-            tasks.clear()
+            for chunk, future in due:
+                yield from zip(chunk, future.result() if future and not future.exception() else map(_alone, chunk))
+            due.clear()
             pool = _pool(count)
     finally:
         pool.shutdown(cancel_futures=True)
@@ -106,9 +86,9 @@ def _in_processes(paths: Iterator[PathLike], count: int) -> Iterator[tuple[PathL
 
 def _alone(path: PathLike) -> Result:
     """The result of a path in a process of its own, where one has died."""
-    with _pool(1) as pool:
-        results = _Task([path], pool).results()
-    return results[0] if results else NotReadable(Problem.TOOL_FAILED, "the process that read it died twice", os.fsdecode(path))
+    with _pool(1) as pool, suppress(BrokenProcessPool):
+        return pool.submit(_results, [path]).result()[0]
+    return NotReadable(Problem.TOOL_FAILED, "the process that read it died twice", os.fsdecode(path))
 
 
 def _pool(count: int) -> ProcessPoolExecutor:

@@ -4,15 +4,15 @@ problem, and as a catalogue has it."""
 from __future__ import annotations
 
 import os
-import re
 import warnings
-from typing import TYPE_CHECKING, Any, Iterable, Iterator, Mapping, NamedTuple, Sequence, Type, TypeVar, overload
+from typing import TYPE_CHECKING, Any, Callable, Iterable, Iterator, Mapping, NamedTuple, Sequence, Type, TypeVar, overload
 
 from exifnorm._words import documented
 
 from .comparison.origin import Origin
 from .extract.extraction import failed
 from .fields.block_fields import fields_of
+from .fields.character_sets import in_found_set
 from .fields.plain_names import spellings
 from .fields.shown import Shown
 from .judge.judge import judge_all
@@ -104,17 +104,17 @@ class Block:
     - `record`: the block as a catalogue has it, for the commands
     """
 
-    __slots__ = ("record", "data", "kind", "name", "status", "is_accepted", "digest", "where", "extractor")
+    __slots__ = ("record", "data", "kind", "name", "status", "is_accepted", "digest", "where", "extractor", "_fields_of")
 
-    def __init__(self, record: BlockRecord, data: bytes) -> None:
-        self.record, self.data = record, data
+    def __init__(self, record: BlockRecord, data: bytes, fields_of: Callable[[BlockRecord], list[Field]]) -> None:
+        self.record, self.data, self._fields_of = record, data, fields_of
         self.kind, self.name, self.where, self.extractor = record.kind, record.name, record.source, record.extractor
         self.status, self.is_accepted, self.digest = str(record.status), record.is_accepted, record.digest
 
     @property
     def fields(self) -> tuple[Field, ...]:
         """Its fields, which are made when they are first asked for; of a refused block those after a repair in memory, if one is known."""
-        return tuple(field.in_block(self.name) for field in fields_of(self.record))
+        return tuple(field.in_block(self.name) for field in self._fields_of(self.record))
 
     @property
     def refusal(self) -> Refusal | None:
@@ -197,7 +197,7 @@ class Picture(Mapping[str, "Value"]):
 
     __slots__ = (
         *("name", "path", "type", "problem", "detail", "origin"),
-        *("_read", "_records", "_blocks", "_fields", "_names", "_texts", "_record"),
+        *("_read", "_records", "_blocks", "_in_sets", "_names", "_texts", "_record"),
     )
 
     def __init__(
@@ -212,8 +212,8 @@ class Picture(Mapping[str, "Value"]):
         self.type, self.problem, self.detail = read.type, read.problem or "", read.detail
         self._read, self._records, self._texts = read, records, texts
         self._blocks: tuple[Block, ...] | None = None
-        self._fields: list[tuple[BlockRecord, list[Field]]] | None = None
-        self._names: list[dict[str, list[Field]]] | None = None  # of each block
+        self._in_sets: dict[int, list[Field]] = {}
+        self._names: list[tuple[BlockRecord, dict[str, list[Field]]]] | None = None  # of each block
         self._record: PictureRecord | None = None
 
     @classmethod
@@ -256,7 +256,7 @@ class Picture(Mapping[str, "Value"]):
         """The blocks, in the order of the file."""
         if self._blocks is None:
             data = {it.name: it.data for it in self._read.blocks}
-            self._blocks = tuple(Block(it, data.get(it.name, b"")) for it in self._records)
+            self._blocks = tuple(Block(it, data.get(it.name, b""), self._fields_of) for it in self._records)
         return self._blocks
 
     @property
@@ -306,9 +306,14 @@ class Picture(Mapping[str, "Value"]):
 
     def _of_blocks(self) -> list[tuple[BlockRecord, list[Field]]]:
         """The blocks with their fields."""
-        if self._fields is None:
-            self._fields = [(record, fields_of(record)) for record in self._records]
-        return self._fields
+        return [(record, self._fields_of(record)) for record in self._records]
+
+    def _fields_of(self, record: BlockRecord) -> list[Field]:
+        """The fields of a block, each text in the character set that it declares, or that the picture shows."""
+        made = id(record.fresh or record)  # pages of a TIFF may share a block of many fields
+        if made not in self._in_sets:
+            self._in_sets[made] = in_found_set(fields_of(record), map(fields_of, self._records), self._read.rest)
+        return self._in_sets[made]
 
     def _lists(self) -> Iterable[list[Field]]:
         """The fields of the blocks, once of those that have the same: pages of a TIFF may share a block of many fields."""
@@ -319,27 +324,22 @@ class Picture(Mapping[str, "Value"]):
         """The names of all fields, each once, in the order of the file."""
         return tuple(dict.fromkeys([field.name for fields in self._lists() for field in fields]))
 
-    def _own(self, name: str) -> Iterator[tuple[BlockRecord, list[Field]]]:
+    def _own(self, name: str) -> list[tuple[BlockRecord, list[Field]]]:
         """The fields with a name of this program, of each block that has some."""
         if self._names is None:
             known = {id(fields): _by_name(fields) for fields in self._lists()}
-            self._names = [known[id(fields)] for _, fields in self._of_blocks()]
+            self._names = [(record, known[id(fields)]) for record, fields in self._of_blocks()]
         folded = _text(name).casefold()
-        for (record, _), names in zip(self._of_blocks(), self._names):
-            if folded in names:
-                yield record, names[folded]
+        return [(record, names[folded]) for record, names in self._names if folded in names]
 
-    def _named(self, name: str) -> Iterator[tuple[BlockRecord, list[Field]]]:
+    def _named(self, name: str) -> list[tuple[BlockRecord, list[Field]]]:
         """The same, or else the fields that other programs name so."""
-        own = list(self._own(name))
-        yield from own
-        if not own:
-            from .fields.structures import with_other_name  # which few names need
+        if own := self._own(name):
+            return own
+        from .fields.structures import with_other_name  # which few names need
 
-            for record, fields in self._of_blocks():
-                named = with_other_name(fields, name.casefold())
-                if named:
-                    yield record, named
+        named = ((record, with_other_name(fields, name.casefold())) for record, fields in self._of_blocks())
+        return [it for it in named if it[1]]
 
     def find(self, name: str) -> tuple[Field, ...]:
         """All fields with a name, of all blocks: with its group or without, or the field's key, such as "dc:title", in capital or small letters.
@@ -368,14 +368,17 @@ class Picture(Mapping[str, "Value"]):
 
     def _value(self, name: str, default: Any) -> Any:
         """The value of the first field with a name. A warning is for the caller of what calls this."""
+        found = self._named(name)
+        if not found:
+            return default
+        if len(found) == 1 == len(found[0][1]):  # as most are
+            return found[0][1][0].value
         named: dict[str, list[Field]] = {}
-        for _, fields in self._named(name):
+        for _, fields in found:
             known = frozenset(named)
             for field in fields:
                 if field.name not in known:
                     named.setdefault(field.name, []).append(field)
-        if not named:
-            return default
         first, *others = map(_value_of, named.values())
         if any(it != first for it in others):
             from .fields.choosing import stands_for  # which few names need
@@ -394,7 +397,7 @@ class Picture(Mapping[str, "Value"]):
         return found
 
     def __contains__(self, name: object) -> bool:
-        return isinstance(name, str) and any(self._named(name))
+        return isinstance(name, str) and bool(self._named(name))
 
     def __iter__(self) -> Iterator[str]:
         return iter(self.names)
@@ -471,18 +474,16 @@ class Picture(Mapping[str, "Value"]):
         return next((it for it in (self._taken_by_exif(), *others) if isinstance(it, datetime)), None)
 
     def _taken_by_exif(self) -> datetime | None:
-        from datetime import datetime, timedelta, timezone
+        from datetime import datetime
 
-        when, part, zone = map(self._first, ("ExifIFD:DateTimeOriginal", "ExifIFD:SubSecTimeOriginal", "ExifIFD:OffsetTimeOriginal"))
+        from .fields.xmp_types import object_of
+
+        when, *more = map(self._first, ("ExifIFD:DateTimeOriginal", "ExifIFD:SubSecTimeOriginal", "ExifIFD:OffsetTimeOriginal"))
         if not isinstance(when, datetime):
             return None
-        if isinstance(part, str) and part.strip().isdecimal():
-            when = when.replace(microsecond=int(part.strip()[:6].ljust(6, "0")))
-        match = re.fullmatch(r"Z|([+-])([01]\d|2[0-3]):([0-5]\d)", zone.strip()) if isinstance(zone, str) else None
-        if match:
-            minutes = (int(match[2] or 0) * 60 + int(match[3] or 0)) * (-1 if match[1] == "-" else 1)
-            when = when.replace(tzinfo=timezone(timedelta(minutes=minutes)))
-        return when
+        part, zone = (it.strip() if isinstance(it, str) else "" for it in more)
+        found = (object_of("exif:DateTimeOriginal", when.isoformat() + it) for it in (f".{part}{zone}", f".{part}", zone))
+        return next((it for it in found if isinstance(it, datetime)), when)
 
     @property
     def position(self) -> Position | None:

@@ -19,7 +19,7 @@ from xml.etree import ElementTree
 import pytest
 from made_blocks import ASCII, BLOCKS, block, entry, with_exif
 from made_boxes import Item, box, heif, item_exif, jp2, jxl, uuid
-from made_files import app1, app1_xmp, chunk, exif, jpeg, png, png_xmp, resource, title, webp, xmp
+from made_files import app1, app1_xmp, app13, chunk, exif, jpeg, png, png_xmp, resource, title, webp, xmp
 from made_more_files import gif, gif_xmp, psd
 from made_raw import arw, cr2, dng, nef, orf, pef, rw2, srw, whole_raf
 from studio import SMALL_JPEG, TOP, needs, tool
@@ -404,6 +404,36 @@ def test_a_record_that_declares_utf_8_has_no_guess():
         assert [it.guess for it in found.captions] == [guess] and field == Field(*field.identity)
 
 
+@pytest.mark.parametrize(
+    "octets, number, beside, tool, text, charset",
+    [
+        (b"Krop\xe1\xe8ek", 0x0408, "Kropáček", "", "Kropáček", "Windows-1250"),
+        (b"\xca\xe8\xe5\xe2", 0x0408, "Киев", "", "Киев", "Windows-1251"),
+        (b"K\x9aln", 0x03E9, "", "", "Köln", "Mac Roman"),
+        (b"K\x9aln", 0x0408, "", "Adobe Photoshop CS2 Macintosh", "Köln", "Mac Roman"),
+        (b"File written by Adobe Photoshop\xa8 4.0", 0x0408, "", "", "File written by Adobe Photoshop® 4.0", "Mac Roman"),
+        (b"K\xf6ln", 0x03E9, "Köln", "Adobe Photoshop CS2 Macintosh", "Köln", "Windows-1252"),
+        (b"K\xf6ln", 0x0408, "Bonn", "Adobe Photoshop CS2 Windows", "Köln", "Windows-1252"),
+        (
+            b"Photographer\xeds Mate 3rd Class",
+            0x03E9,
+            "Photographerís Mate 3rd Class (A",
+            "",
+            "Photographerís Mate 3rd Class",
+            "Windows-1252",
+        ),
+    ],
+)
+def test_other_parts_show_the_character_set(octets, number, beside, tool, text, charset):
+    made_by = f"<xmp:CreatorTool xmlns:xmp='http://ns.adobe.com/xap/1.0/'>{tool}</xmp:CreatorTool>"
+    resources = app13(resource(0x0404, data_set(80, octets)), resource(number, b"settings"))
+    found = pictures.read_bytes(jpeg(resources, app1_xmp(xmp(f"<dc:format>{beside}</dc:format>{made_by}"))))
+    (field,) = found.find("IPTC:By-line")
+    assert (field.value, field.text, field.json, field.guess) == (text, text, text, f"character set guessed: {charset}")
+    assert [(it.texts, it.guess) for it in found.captions] == [((text,), field.guess)] and field.raw == octets
+    assert {it.text for it in (*found.fields, *pickle.loads(pickle.dumps(found)).fields) if it.key == "2:80"} == {text}
+
+
 def test_a_broken_block_is_a_sentence_and_no_key():
     broken = pictures.read(BEFORE / PHONE)
     assert [str(it) for it in broken.refusals] == ["Exif: A directory has no entry (byte 442)."]
@@ -533,6 +563,10 @@ def test_errors_name_the_file(tmp_path):
     with pytest.raises(FileNotFoundError) as missing:
         pictures.read(tmp_path / "none.jpg")
     assert missing.value.errno == 2 and str(tmp_path / "none.jpg") in str(missing.value)
+    for name in ("nothing here.jpg", b"nothing here.jpg", Path("nothing here.jpg")):
+        with pytest.raises(FileNotFoundError) as missing:
+            pictures.read(name)
+        assert missing.value.filename == os.fspath(name)
     with pytest.raises(IsADirectoryError) as folder:
         pictures.read(tmp_path)
     assert folder.value.filename == str(tmp_path)
@@ -722,11 +756,3 @@ def test_each_name_has_words():
             if isinstance(one, property) or (issubclass(it, tuple) and member in it._fields):
                 assert one.__doc__ and not one.__doc__.startswith("Alias for field"), (it, member)
     assert [name for name in dir(pictures) if not name.startswith("_")] == sorted(pictures.__all__)
-    assert callable(pictures.compare)
-
-
-@pytest.mark.parametrize("name", ["nothing here.jpg", b"nothing here.jpg", Path("nothing here.jpg")])
-def test_the_error_of_a_missing_file_has_the_name_as_given(name):
-    with pytest.raises(FileNotFoundError) as raised:
-        pictures.read(name)
-    assert raised.value.filename == os.fspath(name)

@@ -2,7 +2,6 @@
 
 from __future__ import annotations
 
-import contextlib
 import itertools
 import re
 import unicodedata
@@ -35,15 +34,6 @@ class ConflictKind(Word):
 
 _LONGEST = 160  # characters of a text in a line
 _ORDER = tuple(ConflictKind)
-# Character sets that are tried on bytes outside ASCII. One is taken only if it gives exactly the text of another standard.
-_CHARACTER_SETS = dict(
-    row.split(" ", 1)
-    for row in (
-        "utf-8 UTF-8; cp1252 Windows-1252; mac_roman Mac Roman; cp437 DOS 437; cp850 DOS 850; cp1250 Windows-1250; iso8859_2 Latin-2;"
-        " mac_latin2 Mac Central European; cp1251 Windows-1251; koi8_r KOI8-R; cp1253 Windows-1253; cp1254 Windows-1254; cp1257 Windows-1257;"
-        " iso8859_15 Latin-9; shift_jis Shift JIS; euc_jp EUC-JP; gb18030 GB 18030; big5 Big5; euc_kr EUC-KR"
-    ).split("; ")
-)
 _CLEAREST = (NAMES[XMP], NAMES[IPTC], NAMES[EXIF])  # the order in which two texts are compared: that which is least often cut first
 
 
@@ -178,7 +168,7 @@ def _plain(text: str) -> str:
 def _pair(label: Label, text: Caption, other: Caption) -> _How:
     first, second = (list(filter(None, map(_plain, texts.texts))) for texts in (text, other))
     if first == second:
-        return _How(ConflictKind.ALIKE)
+        return next(filter(None, map(_in_set, (text, other))), _How(ConflictKind.ALIKE))
     if label.word == DATE:
         return _How(ConflictKind.ALIKE if _is_same_time(first[0], second[0]) else ConflictKind.DIFFERENT)
     if label.is_list and (how := _lists(first, second, text, other)):
@@ -219,11 +209,6 @@ def _texts_differ(label: Label, pair: tuple[str, str], whose: tuple[Caption, Cap
 def _explained(label: Label, text: str, against: str, label_text: Caption, at: int) -> Iterator[_How]:
     """Why a text isn't the other one, although that was meant."""
     octets = label_text.octets[at] if len(label_text.octets) > at else b""
-    for word, again in _read_again(octets):
-        if again == against:
-            declares = "is not what it declares" if "declared" in label_text.guess else "nothing declares"
-            yield _How(ConflictKind.CHARACTERS, f"{label_text.field} is in {word}, which {declares}")
-        yield from _cut(label, label_text, again, against, len(octets))
     if _without_detour(text) == against:
         yield _How(ConflictKind.CHARACTERS, f"{label_text.field} was read in a wrong character set before it was written")
     if _without_accents(text, against):
@@ -231,11 +216,12 @@ def _explained(label: Label, text: str, against: str, label_text: Caption, at: i
     yield from _cut(label, label_text, text, against, len(octets))
 
 
-def _read_again(octets: bytes) -> Iterator[tuple[str, str]]:
-    """Bytes outside ASCII as texts in each character set that can have them, after its word."""
-    for name, word in _CHARACTER_SETS.items() if not octets.isascii() else ():
-        with contextlib.suppress(UnicodeDecodeError):
-            yield word, _plain(octets.rstrip(b"\0").decode(name))
+def _in_set(text: Caption) -> _How | None:
+    """How a text differs from another one by the set that it is in, even if it was found and read in this."""
+    remark, _, word = text.guess.rpartition(": ")
+    declares = "is not what it declares" if "declared" in remark else "nothing declares"
+    how = _How(ConflictKind.CHARACTERS, f"{text.field} is in {word}, which {declares}", text.field)
+    return how if word not in ("", "UTF-8", "Windows-1252") else None
 
 
 def _cut(label: Label, label_text: Caption, text: str, against: str, octets: int) -> Iterator[_How]:

@@ -33,7 +33,7 @@ from ..model.records import BLOCKS, PICTURES, BlockRecord, PictureRecord, Stamp,
 from ..model.sides import Status
 
 APPLICATION = 0x45584E50  # 'EXNP', which distinguishes a catalogue from other SQLite files
-VERSION = 10
+VERSION = 11
 CACHE = 32_000  # kB of a catalogue that is written to: digests go into its index in no order
 PATIENCE = 200  # milliseconds that closing waits for other programs; while they read, the write-ahead log stays
 WAIT = 10  # seconds for other processes that set the journal's mode

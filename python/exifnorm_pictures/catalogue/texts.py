@@ -6,6 +6,7 @@ from typing import NamedTuple, Sequence
 
 from ..fields.labels import LABEL_WORDS, LABELLED, Caption, camera_of, not_kept, of_labelled, with_own
 from ..fields.block_fields import rests_of
+from ..fields.character_sets import in_found_set
 from ..fields.field import Field
 from ..fields.listing import rest_of
 from ..fields.places import Located, located, of_position
@@ -31,8 +32,9 @@ class PictureTexts(NamedTuple):
 _BlockTexts = tuple[list[Caption], set[str]]  # the texts of a block, and the labels of those that are too long
 
 
-def _texts_of_block(fields: list[Field]) -> _BlockTexts:
+def _texts_of_block(fields: list[Field], blocks: Sequence[tuple[BlockRecord, list[Field]]]) -> _BlockTexts:
     labelled = [it for it in fields if (it.directory, it.tag) in LABELLED]
+    labelled = in_found_set(labelled, (it for _, it in blocks))
     left = not_kept(labelled) if labelled else set()
     return [it for it in of_labelled(labelled) if it.label not in left] if labelled else [], left
 
@@ -49,7 +51,7 @@ def texts_of(blocks: Sequence[tuple[BlockRecord, list[Field]]], wanted: Sequence
     known: dict[int, _BlockTexts] = {}  # pages of a TIFF may share a block of many fields
     for block, fields in blocks:
         if id(fields) not in known:
-            known[id(fields)] = _texts_of_block(fields)
+            known[id(fields)] = _texts_of_block(fields, blocks)
             camera = camera if any(camera) else camera_of(fields)
         captions, left = known[id(fields)]
         if captions or left:

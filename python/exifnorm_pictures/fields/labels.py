@@ -14,7 +14,7 @@ from ..model.xmp_values import Long, texts_in
 from .field import Field
 from .own_texts import is_own
 from .plain_names import group_name, plain_name
-from .plain_texts import decoded, text_of_comment
+from .plain_texts import decoded, text_of_comment, utf_16
 
 
 class Label(NamedTuple):
@@ -28,24 +28,29 @@ class Label(NamedTuple):
     is_list: bool = False
 
 
-LABELS = (
-    Label("title", "", "2:5", "dc:title", 64),
-    Label("caption", "010e", "2:120", "dc:description", 2000),
-    Label("headline", "", "2:105", "photoshop:Headline", 256),
-    Label("creator", "013b", "2:80", "dc:creator", 32, True),
-    Label("creator's job", "", "2:85", "photoshop:AuthorsPosition", 32),
-    Label("credit", "", "2:110", "photoshop:Credit", 32),
-    Label("source", "", "2:115", "photoshop:Source", 32),
-    Label("copyright", "8298", "2:116", "dc:rights", 128),
-    Label("keywords", "", "2:25", "dc:subject", 64, True),
-    Label("job identifier", "", "2:103", "photoshop:TransmissionReference", 32),
-    Label("date created", "9003", "2:55", "photoshop:DateCreated"),
-    Label("location", "", "2:92", "Iptc4xmpCore:Location", 32),
-    Label("city", "", "2:90", "photoshop:City", 32),
-    Label("state", "", "2:95", "photoshop:State", 32),
-    Label("country", "", "2:101", "photoshop:Country", 64),
-    Label("instructions", "", "2:40", "photoshop:Instructions", 256),
-    Label("usage terms", "", "", "xmpRights:UsageTerms"),
+# The members of each label; bytes and "list" only where they are needed
+_LABELS = """
+title,,2:5,dc:title,64,
+caption,010e,2:120,dc:description,2000,
+headline,,2:105,photoshop:Headline,256,
+creator,013b,2:80,dc:creator,32,list
+creator's job,,2:85,photoshop:AuthorsPosition,32,
+credit,,2:110,photoshop:Credit,32,
+source,,2:115,photoshop:Source,32,
+copyright,8298,2:116,dc:rights,128,
+keywords,,2:25,dc:subject,64,list
+job identifier,,2:103,photoshop:TransmissionReference,32,
+date created,9003,2:55,photoshop:DateCreated,,
+location,,2:92,Iptc4xmpCore:Location,32,
+city,,2:90,photoshop:City,32,
+state,,2:95,photoshop:State,32,
+country,,2:101,photoshop:Country,64,
+instructions,,2:40,photoshop:Instructions,256,
+usage terms,,,xmpRights:UsageTerms,,
+"""
+LABELS = tuple(
+    Label(word, exif, iptc, xmp, int(limit or 0), bool(is_list))
+    for word, exif, iptc, xmp, limit, is_list in (row.split(",") for row in _LABELS.strip().splitlines())
 )
 COMMENT, DATE = "comment", "date created"
 LABEL_WORDS = (*(it.word for it in LABELS), COMMENT)
@@ -61,21 +66,17 @@ PERSON_SHOWN = "person shown"
 # No labels of captions either, but of fields that are asked for: which camera, lens and owner a picture is of, which a MakerNote may have, too
 # (only ExifTool reads it); until when, from when and for what it may be used; whether a program has made it; and who is shown
 OF_FIELDS = {
-    "serial": (
-        ("exif", "a431"),
-        ("exif", "a435"),
-        ("main", "c62f"),
-        ("xmp", "exifEX:BodySerialNumber"),
-        ("xmp", "exifEX:LensSerialNumber"),
-        ("xmp", "aux:SerialNumber"),
-        ("xmp", "aux:LensSerialNumber"),
-    ),
-    "owner": (("exif", "a430"), ("xmp", "exifEX:CameraOwnerName"), ("xmp", "aux:OwnerName")),
-    RIGHTS_END: (("iptc", "2:37"), ("xmp", "plus:LicenseEndDate")),
-    EMBARGO: (("iptc", "2:30"), ("xmp", "<http://prismstandard.org/namespaces/basic/2.0/embargoDate>")),
-    DIGITAL_SOURCE: (("xmp", "Iptc4xmpExt:DigitalSourceType"),),
-    DATA_MINING: (("xmp", "plus:DataMining"),),
-    PERSON_SHOWN: (("xmp", "Iptc4xmpExt:PersonInImage"),),
+    word: tuple((where, key) for it in places.split() for where, _, key in [it.partition("/")])
+    for row in f"""
+serial= exif/a431 exif/a435 main/c62f xmp/exifEX:BodySerialNumber xmp/exifEX:LensSerialNumber xmp/aux:SerialNumber xmp/aux:LensSerialNumber
+owner= exif/a430 xmp/exifEX:CameraOwnerName xmp/aux:OwnerName
+{RIGHTS_END}= iptc/2:37 xmp/plus:LicenseEndDate
+{EMBARGO}= iptc/2:30 xmp/<http://prismstandard.org/namespaces/basic/2.0/embargoDate>
+{DIGITAL_SOURCE}= xmp/Iptc4xmpExt:DigitalSourceType
+{DATA_MINING}= xmp/plus:DataMining
+{PERSON_SHOWN}= xmp/Iptc4xmpExt:PersonInImage
+""".strip().splitlines()
+    for word, _, places in [row.partition("= ")]
 }
 DATED = (DATE, RIGHTS_END, EMBARGO)  # labels of dates
 CODED = (DIGITAL_SOURCE, DATA_MINING)  # labels of codes, which are the last part of a URI
@@ -92,7 +93,7 @@ def is_in_maker_notes(word: str) -> bool:
 
 # The tags of Exif that XMP has too, beside the properties of labels
 _MIRRORS = {"010e": "tiff:ImageDescription", "013b": "tiff:Artist", "8298": "tiff:Copyright", "9003": "exif:DateTimeOriginal"}
-_POSITION = ("0001", "0002", "0003", "0004", "0005", "0006")
+_POSITION = "0001 0002 0003 0004 0005 0006".split()
 
 
 @functools.lru_cache(maxsize=1)
@@ -232,7 +233,7 @@ def has_long(field: Field) -> bool:
 
 
 _NAMES = {place: group_name(*place) for place in LABELLED}  # of fields
-_IN_EXIF = ("9003", "9011", "9286", "9291")  # the tags whose directory is that of Exif; of the others it is the main directory
+_IN_EXIF = "9003 9011 9286 9291".split()  # the tags whose directory is that of Exif; of the others it is the main directory
 # By the tag or DataSet: the number of its label
 _NUMBERS = {tag: number for number, label in enumerate(LABELS) for tag in (label.exif, label.iptc) if tag}
 
@@ -307,13 +308,9 @@ def _extra(exif: dict[str, Field]) -> Iterator[Caption]:
     """The comment, and what Windows writes."""
     for tag in ("9286", *WINDOWS):
         if tag in exif:
-            text = text_of_comment(exif[tag]) if tag == "9286" else _wide_text(_octets(exif[tag]))
+            text = text_of_comment(exif[tag]) if tag == "9286" else utf_16(_octets(exif[tag])).rstrip("\0 ")
             if text:
                 yield Caption(_EXIF[tag], NAMES[EXIF], _NAMES[exif[tag].directory, tag], (text,), is_extra=True)
-
-
-def _wide_text(octets: bytes) -> str:
-    return octets[: len(octets) & ~1].decode("utf-16-le", "replace").rstrip("\0 ")
 
 
 # Dates

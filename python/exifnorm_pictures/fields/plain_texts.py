@@ -10,6 +10,21 @@ from .field import Field
 from .listing import DATASET_NUMBERS, exact, is_comment, is_text, is_wide_text, kept_value, marked_text, printable, shortened
 
 EMPTY = "(empty)"
+# Character sets that are tried on bytes outside ASCII. One is taken only if it gives exactly the text of another field.
+CHARACTER_SETS = dict(
+    row.split(" ", 1)
+    for row in (
+        "utf-8 UTF-8; cp1252 Windows-1252; mac_roman Mac Roman; cp437 DOS 437; cp850 DOS 850; cp1250 Windows-1250; iso8859_2 Latin-2;"
+        " mac_latin2 Mac Central European; cp1251 Windows-1251; koi8_r KOI8-R; cp1253 Windows-1253; cp1254 Windows-1254; cp1257 Windows-1257;"
+        " iso8859_15 Latin-9; shift_jis Shift JIS; euc_jp EUC-JP; gb18030 GB 18030; big5 Big5; euc_kr EUC-KR"
+    ).split("; ")
+)
+
+
+class InSet(bytes):
+    """A text whose character set isn't declared, but known by other parts of its picture."""
+
+    charset = "cp1252"  # where nothing shows another one
 
 
 def text_of(field: Field) -> str | None:
@@ -33,13 +48,18 @@ def is_utf8(octets: bytes) -> bool:
 
 
 def guessed(octets: bytes, filling: bytes = b"\0 ") -> str:
-    """A text whose character set isn't declared, without the filling at its end: UTF-8 if it can be, otherwise Windows-1252.
+    """A text whose character set isn't declared, without the filling at its end: UTF-8 if it can be, otherwise that of `InSet`.
 
     >>> guessed(b"Z\\xfcrich\\0"), guessed(b"Z\\xc3\\xbcrich")
     ('Zürich', 'Zürich')
     """
     bare = octets.rstrip(filling)
-    return bare.decode("utf-8" if is_utf8(bare) else "cp1252", "backslashreplace")
+    return bare.decode("utf-8" if is_utf8(bare) else charset_of(octets), "backslashreplace")
+
+
+def charset_of(octets: bytes) -> str:
+    """The character set of a text that isn't UTF-8."""
+    return octets.charset if isinstance(octets, InSet) else InSet.charset
 
 
 # CIPA DC-008 (Exif 2.32), 4.6.6: eight bytes in front of a comment name its character set. Some programs fill them with blanks.
@@ -67,13 +87,18 @@ def comment(octets: bytes) -> str | None:
         bare = _bare_comment(octets)
         return wide_comment(octets) if bare is None else bare
     if name == "UNICODE":
-        both = [rest[: len(rest) & ~1].decode(it, "replace") for it in ("utf-16-be", "utf-16-le")]
+        both = [utf_16(rest, it) for it in ("utf-16-be", "utf-16-le")]
         return min(both, key=lambda it: sum(ord(one) > 0x2FF for one in it)).lstrip(_MARK).partition("\0")[0].rstrip()
     text = rest.partition(b"\0")[0]
     try:
         return text.decode("iso2022_jp" if name == "JIS" else "utf-8" if is_utf8(text) else "cp1252").rstrip()
     except UnicodeDecodeError:
         return None
+
+
+def utf_16(octets: bytes, order: str = "utf-16-le", errors: str = "replace") -> str:
+    """A text in UTF-16, without the last byte if they are odd."""
+    return octets[: len(octets) & ~1].decode(order, errors)
 
 
 def _character_set(octets: bytes) -> str | None:
@@ -103,7 +128,7 @@ def wide_comment(octets: bytes) -> str | None:
     """The text of a comment in UTF-16 in front of which no character set is named: it can be printed, and most of it is Latin. None of any other."""
     for order in ("utf-16-le", "utf-16-be"):
         try:
-            text = printable(octets[: len(octets) & ~1].decode(order).lstrip(_MARK).rstrip("\0 "))
+            text = printable(utf_16(octets, order, "strict").lstrip(_MARK).rstrip("\0 "))
         except UnicodeDecodeError:
             continue
         if text and 2 * sum(ord(one) < 0x250 for one in text) > len(text):
@@ -151,13 +176,11 @@ def decoded(octets: bytes, declares_utf8: bool = False) -> tuple[str, str]:
     >>> decoded(b"Vase"), decoded(b"Z\\xfcrich"), decoded(b"Z\\xc3\\xbcrich", True)
     (('Vase', ''), ('Zürich', 'character set guessed: Windows-1252'), ('Zürich', ''))
     """
-    bare = octets.rstrip(b"\0")
-    try:
-        text = bare.decode("utf-8")
-        return text, "" if bare.isascii() or declares_utf8 else "character set guessed: UTF-8"
-    except UnicodeDecodeError:
-        remark = "declared as UTF-8, which it isn't" if declares_utf8 else "character set guessed"
-        return bare.decode("cp1252", "backslashreplace"), f"{remark}: Windows-1252"
+    text = guessed(octets, b"\0")
+    if is_utf8(octets):
+        return text, "" if octets.isascii() or declares_utf8 else "character set guessed: UTF-8"
+    remark = "declared as UTF-8, which it isn't" if declares_utf8 else "character set guessed"
+    return text, f"{remark}: {CHARACTER_SETS[charset_of(octets)]}"
 
 
 def text_of_comment(field: Field) -> str | None:

@@ -5,6 +5,7 @@ A value without plain words stays as it is printed exactly.
 
 from __future__ import annotations
 
+import re
 
 from ..model.texts import escaped, quoted
 from ..model.xmp_values import Literal
@@ -16,46 +17,42 @@ from .places import direction
 from .plain_texts import EMPTY, guessed, plain_comment, plain_xmp, text_of
 
 # Words for numbers: TIFF 6.0 and CIPA DC-008 (Exif 2.32), 4.6
-WORDS: dict[str, dict[str, str]] = {}
-
-
-def _words(keys: str, text: str) -> None:
-    rows = dict(row.strip().split(" ", 1) for row in text.split(";"))
-    WORDS.update({key: rows for key in keys.split()})
-
-
-_words(
-    "0112",
-    "1 upright; 2 mirrored left to right; 3 turn 180° to view; 4 mirrored top to bottom;"
-    "5 mirrored left to right, then turn 90° counter-clockwise to view; 6 turn 90° clockwise to view;"
-    "7 mirrored left to right, then turn 90° clockwise to view; 8 turn 90° counter-clockwise to view",
-)
-_words("0128 a210", "1 no unit; 2 inches; 3 centimetres")
-_words(
-    "8822",
-    "0 not defined; 1 manual; 2 normal program; 3 aperture priority; 4 shutter priority; 5 creative program (depth of field);"
-    "6 action program (short exposure); 7 portrait; 8 landscape",
-)
-_words("9207", "0 unknown; 1 average; 2 centre-weighted average; 3 spot; 4 multi-spot; 5 multi-segment; 6 partial; 255 other")
-_words(
-    "9208",
-    "0 unknown; 1 daylight; 2 fluorescent; 3 tungsten; 4 flash; 9 fine weather; 10 cloudy; 11 shade; 12 daylight fluorescent;"
-    "13 day white fluorescent; 14 cool white fluorescent; 15 white fluorescent; 16 warm white fluorescent; 17 standard light A;"
-    "18 standard light B; 19 standard light C; 20 D55; 21 D65; 22 D75; 23 D50; 24 ISO studio tungsten; 255 other",
-)
-_words("a001", "1 sRGB; 2 Adobe RGB; 65535 uncalibrated")
-_words("a402", "0 automatic; 1 manual; 2 bracket")
-_words("a403", "0 automatic; 1 manual")
-_words("a406", "0 standard; 1 landscape; 2 portrait; 3 night")
-_words("a408 a409", "0 normal; 1 low; 2 high")
-_words("a40a", "0 normal; 1 soft; 2 hard")
-_words("a407", "0 none; 1 low gain up; 2 high gain up; 3 low gain down; 4 high gain down")
-_words("a401", "0 normal; 1 custom")
-_words("a40c", "0 unknown; 1 macro; 2 close; 3 distant")
-_words("0103", "1 uncompressed; 2 CCITT 1D; 3 CCITT group 3; 4 CCITT group 4; 5 LZW; 6 JPEG (old form); 7 JPEG; 8 Deflate; 32773 PackBits")
-_words("0106", "0 white is zero; 1 black is zero; 2 RGB; 3 palette; 4 mask; 5 CMYK; 6 YCbCr; 8 CIELab")
-_words("0213", "1 centred; 2 co-sited")
-
+WORDS = {
+    key: dict(row.split(" ", 1) for row in " ".join(rows.split()).split("; "))
+    for keys, rows in re.findall(
+        r"^([0-9a-f ]+): ((?:.|\n )+)",
+        """
+0112: 1 upright; 2 mirrored left to right; 3 turn 180° to view; 4 mirrored top to bottom; 5
+    mirrored left to right, then turn 90° counter-clockwise to view; 6 turn 90° clockwise to view;
+    7 mirrored left to right, then turn 90° clockwise to view; 8 turn 90° counter-clockwise to
+    view
+0128 a210: 1 no unit; 2 inches; 3 centimetres
+8822: 0 not defined; 1 manual; 2 normal program; 3 aperture priority; 4 shutter priority; 5
+    creative program (depth of field); 6 action program (short exposure); 7 portrait; 8 landscape
+9207: 0 unknown; 1 average; 2 centre-weighted average; 3 spot; 4 multi-spot; 5 multi-segment; 6
+    partial; 255 other
+9208: 0 unknown; 1 daylight; 2 fluorescent; 3 tungsten; 4 flash; 9 fine weather; 10 cloudy; 11
+    shade; 12 daylight fluorescent; 13 day white fluorescent; 14 cool white fluorescent; 15 white
+    fluorescent; 16 warm white fluorescent; 17 standard light A; 18 standard light B; 19 standard
+    light C; 20 D55; 21 D65; 22 D75; 23 D50; 24 ISO studio tungsten; 255 other
+a001: 1 sRGB; 2 Adobe RGB; 65535 uncalibrated
+a402: 0 automatic; 1 manual; 2 bracket
+a403: 0 automatic; 1 manual
+a406: 0 standard; 1 landscape; 2 portrait; 3 night
+a408 a409: 0 normal; 1 low; 2 high
+a40a: 0 normal; 1 soft; 2 hard
+a407: 0 none; 1 low gain up; 2 high gain up; 3 low gain down; 4 high gain down
+a401: 0 normal; 1 custom
+a40c: 0 unknown; 1 macro; 2 close; 3 distant
+0103: 1 uncompressed; 2 CCITT 1D; 3 CCITT group 3; 4 CCITT group 4; 5 LZW; 6 JPEG (old form); 7
+    JPEG; 8 Deflate; 32773 PackBits
+0106: 0 white is zero; 1 black is zero; 2 RGB; 3 palette; 4 mask; 5 CMYK; 6 YCbCr; 8 CIELab
+0213: 1 centred; 2 co-sited
+""",
+        re.M,
+    )
+    for key in keys.split()
+}
 
 # Words for bits of Flash (CIPA DC-008, 4.6.5): the first bit, a mask for the number there, and the words for each number
 FLASH = (

@@ -3,6 +3,7 @@
 from __future__ import annotations
 
 import math
+import re
 import struct
 from datetime import date, datetime, time
 from fractions import Fraction
@@ -12,13 +13,13 @@ from typing import Any, Callable, Iterator, Sequence, Union
 from ..model.xmp_values import Array, Literal, Long, LongStructure, Structure, Uri, XmpValue, exact
 from .field import Field
 from .listing import DATASET_DATES, DATASET_NUMBERS, DATASET_TIMES, LONGEST_TEXT, is_comment, is_wide_text, kept_value
-from .plain_texts import comment, guessed
+from .plain_texts import guessed, text_of_comment, utf_16
 from .xmp_types import object_of
 
 Value = Union[str, int, float, bool, Fraction, datetime, date, time, bytes, None, tuple[Any, ...], dict[str, Any]]
 
 _DATES = {("main", "0132"), ("exif", "9003"), ("exif", "9004")}
-_VERSIONS = {("exif", "9000"), ("exif", "a000"), ("interop", "0002")}  # UNDEFINED, and digits by the standard
+_VERSIONS = {("UNDEFINED", *it) for it in (("exif", "9000"), ("exif", "a000"), ("interop", "0002"))}  # digits by the standard
 _DATASET_OCTETS = {"1:90", "2:125", "2:202"}
 
 
@@ -105,13 +106,12 @@ def _of_octets(field: Field, octets: bytes) -> Value:
     """A text, numbers, or the bytes."""
     if field.directory == "iptc":
         return _of_dataset(field.tag, octets)
-    if field.type in ("ASCII", "UTF8") or (field.type == "UNDEFINED" and (field.directory, field.tag) in _VERSIONS):
+    if is_comment(field) and (text := text_of_comment(field)) is not None:
+        return text
+    if field.type in ("ASCII", "UTF8") or is_comment(field) or (field.type, field.directory, field.tag) in _VERSIONS:
         return guessed(octets, b"\0")
-    if is_comment(field):
-        text = comment(octets)
-        return guessed(octets, b"\0") if text is None else text
     if is_wide_text(field):
-        return octets[: len(octets) & ~1].decode("utf-16-le", "replace").rstrip("\0")
+        return utf_16(octets).rstrip("\0")
     if field.type in ("BYTE", "SBYTE"):
         return _one_or_all(struct.unpack(f"{len(octets)}{'B' if field.type == 'BYTE' else 'b'}", octets))
     return octets
@@ -123,28 +123,24 @@ def _of_dataset(key: str, octets: bytes) -> Value:
     return guessed(octets, b"\0") if key[:2] in ("1:", "2:") and key not in _DATASET_OCTETS else octets
 
 
-def _moment(text: str, form: str) -> datetime | None:
-    try:
-        return datetime.strptime(text, form)
-    except ValueError:
-        return None
-
-
-def _day(text: str) -> date | None:
-    moment = _moment(text, "%Y%m%d")
-    return moment.date() if moment else None
+def _dated(form: str, in_xmp: str, text: str) -> datetime | date | None:
+    """A date in a form, by the form that it has in XMP; None of another one, and of a date that no calendar has."""
+    match = re.fullmatch(form, text, re.ASCII)
+    value = object_of("xmp:CreateDate", match.expand(in_xmp)) if match else None
+    return value if isinstance(value, date) else None
 
 
 def _clock(text: str) -> time | None:
-    moment = _moment(text, "%H%M%S%z") or _moment(text, "%H%M%S")
-    return moment.timetz() if moment else None
+    moment = _dated(r"(\d\d)(\d\d)(\d\d)(?:([+-]\d\d)(\d\d))?", r"2000-01-01T\1:\2:\3" + r"\4:\5" * (len(text) > 6), text)
+    return moment.timetz() if isinstance(moment, datetime) else None
 
 
-_MOMENT: Callable[[str], Value] = partial(_moment, form="%Y:%m:%d %H:%M:%S")
+_DAY = partial(_dated, r"(\d{4})(\d\d)(\d\d)", r"\1-\2-\3")
+_MOMENT = partial(_dated, r"(\d{4}):(\d\d):(\d\d) (\d\d:\d\d:\d\d)", r"\1-\2-\3T\4")
 # Dates and times in the form of their standard, by the directory and the tag of a field
 _DATED: dict[tuple[str, str], Callable[[str], Value]] = {
     **dict.fromkeys(_DATES, _MOMENT),
-    **{("iptc", it): _day for it in DATASET_DATES},
+    **{("iptc", it): _DAY for it in DATASET_DATES},
     **{("iptc", it): _clock for it in DATASET_TIMES},
 }
 

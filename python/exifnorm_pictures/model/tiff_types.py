@@ -20,20 +20,15 @@ class Type(NamedTuple):
     code: str = ""
 
 
-EXIF: dict[int, Type] = {  # those of a block
-    1: Type("BYTE", 1),
-    2: Type("ASCII", 1),
-    SHORT: Type("SHORT", 2, "H"),
-    LONG: Type("LONG", 4, "I"),
-    5: Type("RATIONAL", 8),
-    6: Type("SBYTE", 1),
-    7: Type("UNDEFINED", 1),
-    SSHORT: Type("SSHORT", 2),
-    SLONG: Type("SLONG", 4, "i"),
-    10: Type("SRATIONAL", 8),
-    11: Type("FLOAT", 4),
-    12: Type("DOUBLE", 8),
-    129: Type("UTF-8", 1),
+EXIF = {  # those of a block
+    int(number): Type(name, int(size), *code)
+    for row in """
+1 BYTE 1, 2 ASCII 1, 3 SHORT 2 H, 4 LONG 4 I, 5 RATIONAL 8, 6 SBYTE 1, 7 UNDEFINED 1, 8 SSHORT 2, 9 SLONG 4 i, 10 SRATIONAL 8,
+11 FLOAT 4, 12 DOUBLE 8, 129 UTF-8 1
+""".split(
+        ","
+    )
+    for number, name, size, *code in [row.split()]
 }
 TIFF = {**EXIF, IFD: Type("IFD", 4, "I")}
 BIG_TIFF = {**TIFF, LONG8: Type("LONG8", 8, "Q"), SLONG8: Type("SLONG8", 8, "q"), IFD8: Type("IFD8", 8, "Q")}
