@@ -2,11 +2,13 @@
 
 from __future__ import annotations
 
+import hashlib
 import operator
-from typing import Any, Dict, Iterable, Iterator, List, Literal, NamedTuple, NoReturn, Optional, Tuple, Union
+import struct
+from typing import Any, Callable, Dict, Iterable, Iterator, List, Literal, NamedTuple, NoReturn, Optional, Tuple, Union
 
 from ._calls import Octets, view_of
-from ._errors import HeadRefused, PictureRefused, TooMany, XmpNotRead
+from ._errors import HeadRefused, LibraryMissing, PictureRefused, TooMany, XmpNotRead
 from ._library import PART, PLACE, RESOURCE, PictureFailure, Status, library
 from ._words import EXIF, IPTC, documented
 
@@ -14,6 +16,14 @@ PART_KINDS = ("", "exif", "photoshop", "xmp", "extended xmp")  # of parts, by th
 BLOCK_KINDS = ("", EXIF, IPTC)  # the same of blocks
 PartRow = Tuple[int, int, int, int, int]
 _IPTC = 0x0404  # the number of the resource
+RESOURCE_REST = 0x10000  # and the number of a resource: a rest that is no segment
+# What the extension module needs to judge blocks while it reads them, and what it then knows of one
+Judging = Tuple[Callable[..., object], Callable[[str], str], Callable[[bytes], bytes], bytes]
+Judged = Tuple[str, str, bytes, Optional[str], int]
+UsualBlock = Tuple[int, int, int, int, Optional[Judged]]
+UsualHead = Tuple[int, bool, bytes, Iterator[Tuple[int, ...]], List[UsualBlock]]
+_VERSION = 1  # of the bytes that the extension module makes of a head
+_HEAD, _REST, _BLOCK = struct.Struct("=7Q16s"), struct.Struct("=3Q"), struct.Struct("=8Q64s64s")
 CAUSES: Dict[int, str] = {101: "JpegNoStart", 102: "JpegNoMarker", 103: "JpegLength", 104: "JpegCut", 105: "JpegTooLong"}
 
 
@@ -120,6 +130,15 @@ def _rows_of_parts(octets: bytes, most: int) -> bytes:
     return rows
 
 
+def rows_or_fault(octets: bytes, most: int) -> Tuple[List[PartRow], str, int]:
+    """The parts of a head as rows, or those before its fault with the cause and the offset of it. Raises TooMany."""
+    try:
+        return part_rows(octets, most), "", 0
+    except HeadRefused as why:
+        rows: List[PartRow] = [(it.marker, PART_KINDS.index(it.kind), it.begins, it.start, it.size) for it in why.parts]
+        return rows, why.cause, why.offset
+
+
 def part_rows(octets: bytes, most: int) -> List[PartRow]:
     """The parts as the library has them, with the numbers of their kinds, where the time for objects matters.
 
@@ -216,6 +235,35 @@ def _raise_for_pair(failure: PictureFailure) -> NoReturn:
     if status == Status.NO_MEMORY:
         raise MemoryError
     raise AssertionError(f"libexifnorm answered the status {status}")
+
+
+def digest_but_note(packed: bytes, note: int, end: int) -> Optional[str]:
+    """A digest of packed fields without the one of the MakerNote, which is between these offsets; None if there is none."""
+    if not end:
+        return None
+    return hashlib.blake2b((packed[1:note] + packed[end:-1]).lstrip(b","), digest_size=32).hexdigest()
+
+
+def usual_head(made: bytes) -> UsualHead:
+    """What the extension module has made of a usual head (`_packed.h`): the end of the header of its scan, whether only
+    picture data follow, Photoshop's sum of IPTC, the rests, and the blocks. A rest is what it is, its offset and its length; a
+    block is the number of its kind, the offset of its segment, its own, its length, and what judging it would find, if that is
+    known: the digests of its bytes and of what they mean, its packed fields, a digest of these without the MakerNote if there is
+    one, and whether bytes that no field has may be behind a pointer. Raises `LibraryMissing` if the module is of another release."""
+    if len(made) < _HEAD.size or _HEAD.unpack_from(made)[:2] != (_VERSION, len(made)):
+        raise LibraryMissing("the extension module _native is of another release than this package: install both again")
+    _, _, end, is_all, rests, count, size, noted = _HEAD.unpack_from(made)
+    first = _HEAD.size + rests * _REST.size
+    at = first + count * _BLOCK.size
+    blocks: List[UsualBlock] = []
+    for kind, segment, start, length, fields, note, note_end, may_have_more, octets, digest in _BLOCK.iter_unpack(made[first:at]):
+        judged = None
+        if fields:
+            packed, at = made[at : at + fields - 1], at + fields - 1
+            but_note = digest_but_note(packed, note, note_end) if note_end else None
+            judged = (octets.decode("ascii"), digest.decode("ascii"), packed, but_note, may_have_more)
+        blocks.append((kind, segment, start, length, judged))
+    return end, bool(is_all), noted[:size], _REST.iter_unpack(made[_HEAD.size : first]), blocks
 
 
 @documented

@@ -8,7 +8,9 @@
 #define PY_SSIZE_T_CLEAN
 #include <Python.h>
 
+#include <stddef.h>
 #include <stdint.h>
+#include <stdlib.h>
 #include <string.h>
 
 #include "exifnorm.h"
@@ -435,7 +437,7 @@ static PyMethodDef of_library[] = {
     {"xmp_unsorted", xmp_unsorted, METH_O, "The form of a packet for showing."},
     {"packed", packed, METH_VARARGS, "What a catalogue keeps of a block's form."},
     {"xmp_packed", xmp_packed, METH_VARARGS, "What a catalogue keeps of a packet."},
-    {"jpeg_head", jpeg_head, METH_VARARGS, "The blocks of the head of a usual JPEG."},
+    {"jpeg_head", jpeg_head, METH_VARARGS, "The blocks of the head of a usual JPEG, and what they mean."},
 };
 #define COUNT ((Py_ssize_t)(sizeof of_library / sizeof of_library[0]))
 #define ADDRESSES 12

@@ -7,6 +7,7 @@
 #define FIRST 3072      /* bytes of an output that needs no allocation */
 #define LONGEST 500000  /* bytes of a form whose fields all are kept (budgets.py) */
 #define DEEPEST 100     /* elements of a packet in one another */
+#define DIGITS 64       /* of SHA-256 */
 
 enum { MADE = 0, LEFT = 1, FAILED = 2 }; /* LEFT: to Python; FAILED: an exception is set */
 
@@ -545,30 +546,46 @@ static int put_fields(struct form *form)
     return done;
 }
 
-/* The fields of a form as packing.py packs them, and where the MakerNote is in these; None if Python has to pack it. */
-static PyObject *packed(PyObject *capsule, PyObject *arguments)
+/* Puts the fields of a form of a block as packing.py packs them, and tells where the MakerNote is in these. LEFT if Python has to pack it. */
+static int put_form(const struct calls *calls, PyObject *sha256, const unsigned char *octets, size_t length, struct out *json, size_t note[2])
 {
     struct form form = {NULL, NULL, NULL, 0, NULL, {0}, 0, 0, 0, 0, {{NULL, 0, 0}}};
-    PyObject *object, *made = NULL;
+    int done;
+
+    form.calls = calls;
+    form.sha256 = sha256;
+    form.at = octets;
+    form.length = length;
+    form.json = json;
+    done = length > LONGEST ? LEFT : put_fields(&form);
+    note[0] = form.note;
+    note[1] = form.note_end;
+    if (done != FAILED && json->failed) {
+        PyErr_NoMemory();
+        return FAILED;
+    }
+    return done;
+}
+
+/* The fields of a form, and where the MakerNote is in these; None if Python has to pack it. */
+static PyObject *packed(PyObject *capsule, PyObject *arguments)
+{
+    const struct calls *calls = PyCapsule_GetPointer(capsule, NULL);
+    PyObject *object, *sha256, *made = NULL;
+    size_t note[2];
     struct bytes bytes;
     struct out json;
     int done;
 
-    form.calls = PyCapsule_GetPointer(capsule, NULL);
-    if (form.calls == NULL || !PyArg_UnpackTuple(arguments, "packed", 2, 2, &object, &form.sha256) || get_bytes(object, &bytes) < 0) {
+    if (calls == NULL || !PyArg_UnpackTuple(arguments, "packed", 2, 2, &object, &sha256) || get_bytes(object, &bytes) < 0) {
         return NULL;
     }
     begin(&json);
-    form.at = bytes.start;
-    form.length = bytes.length;
-    form.json = &json;
-    done = bytes.length > LONGEST ? LEFT : put_fields(&form);
-    if (done != FAILED && json.failed) {
-        PyErr_NoMemory();
-    } else if (done == LEFT) {
+    done = put_form(calls, sha256, bytes.start, bytes.length, &json, note);
+    if (done == LEFT) {
         made = Py_BuildValue("");
     } else if (done == MADE) {
-        made = Py_BuildValue("(y#nn)", (const char *)json.at, (Py_ssize_t)json.length, (Py_ssize_t)form.note, (Py_ssize_t)form.note_end);
+        made = Py_BuildValue("(y#nn)", (const char *)json.at, (Py_ssize_t)json.length, (Py_ssize_t)note[0], (Py_ssize_t)note[1]);
     }
     end(&json);
     return made;
@@ -702,7 +719,7 @@ static int put_digest_of_lines(struct packet *packet, size_t from, size_t start)
     packet->spans.length = from * sizeof *spans;
     packet->lines.length = start;
     if (spans != NULL && !packet->sorted.failed) {
-        done = put_digest(&packet->lines, packet->sha256, packet->sorted.at, packet->sorted.length, 64);
+        done = put_digest(&packet->lines, packet->sha256, packet->sorted.at, packet->sorted.length, DIGITS);
     }
     return done;
 }
@@ -933,73 +950,219 @@ static int put_packet(struct packet *packet)
     return done;
 }
 
-/* The digest of the statements of a packet, and its fields as packing.py packs them; None if Python has to read it. */
+static void begin_packet(struct packet *packet)
+{
+    begin(&packet->lines);
+    begin(&packet->spans);
+    begin(&packet->sorted);
+    begin(&packet->value);
+    begin(&packet->fields);
+    begin(&packet->names);
+    begin(&packet->properties);
+}
+
+static void end_packet(struct packet *packet)
+{
+    end(&packet->lines);
+    end(&packet->spans);
+    end(&packet->sorted);
+    end(&packet->value);
+    end(&packet->fields);
+    end(&packet->names);
+    end(&packet->properties);
+}
+
+/* The form of a block or a packet, in a room of ROOM bytes or in memory that is allocated; LEFT if it has none. */
+static int get_form(text_call call, const struct bytes *bytes, unsigned char *room, struct bytes *form)
+{
+    struct exifnorm_fault fault = {0, 0};
+    unsigned char *at = room;
+    size_t written = 0;
+    uint32_t status = call(bytes->start, bytes->length, at, ROOM, &written, &fault);
+
+    if (status == EXIFNORM_TOO_LITTLE_ROOM && written > ROOM) {
+        size_t longer = written;
+
+        at = PyMem_Malloc(longer);
+        if (at == NULL) {
+            PyErr_NoMemory();
+            return FAILED;
+        }
+        status = call(bytes->start, bytes->length, at, longer, &written, &fault);
+    }
+    form->start = at;
+    form->length = written;
+    if (status != EXIFNORM_DONE && at != room) {
+        PyMem_Free(at);
+    }
+    return status == EXIFNORM_DONE ? MADE : LEFT;
+}
+
+static void end_form(const struct bytes *form, const unsigned char *room)
+{
+    if (form->start != room) {
+        PyMem_Free((void *)(uintptr_t)form->start);
+    }
+}
+
+/* Puts the digest of the statements of a packet at the beginning of `lines`, and its fields as packing.py packs them into `sorted`. LEFT if
+ * Python has to read it. */
+static int read_packet(const struct calls *calls, const struct bytes *bytes, struct packet *packet)
+{
+    unsigned char room[ROOM];
+    struct bytes form;
+    int done = calls->xmp_unsorted == NULL ? LEFT : get_form(calls->xmp_unsorted, bytes, room, &form);
+
+    if (done != MADE) {
+        return done;
+    }
+    packet->at = form.start;
+    packet->end = form.start + form.length;
+    done = put_packet(packet);
+    end_form(&form, room);
+    if (done != FAILED
+        && (packet->lines.failed || packet->spans.failed || packet->sorted.failed || packet->value.failed || packet->fields.failed
+            || packet->names.failed || packet->properties.failed)) {
+        PyErr_NoMemory();
+        return FAILED;
+    }
+    return done;
+}
+
+/* The digest of the statements of a packet, and its fields; None if Python has to read it. */
 static PyObject *xmp_packed(PyObject *capsule, PyObject *arguments)
 {
     const struct calls *calls = PyCapsule_GetPointer(capsule, NULL);
-    struct exifnorm_fault fault = {0, 0};
     PyObject *object, *made = NULL;
-    unsigned char room[ROOM], *form = room;
     struct packet packet;
     struct bytes bytes;
-    size_t written = 0;
-    uint32_t status;
-    int done = LEFT;
+    int done;
 
     if (calls == NULL || !PyArg_UnpackTuple(arguments, "xmp_packed", 4, 4, &object, &packet.sha256, &packet.short_name, &packet.line_of)
         || get_bytes(object, &bytes) < 0) {
         return NULL;
     }
-    status = calls->xmp_unsorted == NULL ? EXIFNORM_RARE : calls->xmp_unsorted(bytes.start, bytes.length, form, ROOM, &written, &fault);
-    if (status == EXIFNORM_TOO_LITTLE_ROOM && written > ROOM) {
-        size_t longer = written;
-
-        form = PyMem_Malloc(longer);
-        if (form == NULL) {
-            return PyErr_NoMemory();
-        }
-        status = calls->xmp_unsorted(bytes.start, bytes.length, form, longer, &written, &fault);
-    }
-    begin(&packet.lines);
-    begin(&packet.spans);
-    begin(&packet.sorted);
-    begin(&packet.value);
-    begin(&packet.fields);
-    begin(&packet.names);
-    begin(&packet.properties);
-    if (status == EXIFNORM_DONE) {
-        packet.at = form;
-        packet.end = form + written;
-        done = put_packet(&packet);
-    }
-    if (done != FAILED
-        && (packet.lines.failed || packet.spans.failed || packet.sorted.failed || packet.value.failed || packet.fields.failed
-            || packet.names.failed || packet.properties.failed)) {
-        PyErr_NoMemory();
-    } else if (done == LEFT) {
+    begin_packet(&packet);
+    done = read_packet(calls, &bytes, &packet);
+    if (done == LEFT) {
         made = Py_BuildValue("");
     } else if (done == MADE) {
-        made = Py_BuildValue("(s#y#)", (const char *)packet.lines.at, (Py_ssize_t)64, (const char *)packet.sorted.at,
+        made = Py_BuildValue("(s#y#)", (const char *)packet.lines.at, (Py_ssize_t)DIGITS, (const char *)packet.sorted.at,
                              (Py_ssize_t)packet.sorted.length);
     }
-    end(&packet.lines);
-    end(&packet.spans);
-    end(&packet.sorted);
-    end(&packet.value);
-    end(&packet.fields);
-    end(&packet.names);
-    end(&packet.properties);
-    if (form != room) {
-        PyMem_Free(form);
-    }
+    end_packet(&packet);
     return made;
+}
+
+/* ---- what the blocks of a picture mean */
+
+/* What Python gives to judge blocks, borrowed: SHA-256, the short name of a property, the field of a property, and the tags behind which bytes may
+ * be that no field has, two bytes each. Without SHA-256 no block is judged. */
+struct judging {
+    PyObject *sha256, *short_name, *line_of;
+    struct bytes tags;
+};
+
+/* A block as judge.py judges it. */
+struct judged {
+    unsigned char digests[2 * DIGITS]; /* of its bytes, and of what they mean */
+    size_t note[2];                    /* where the MakerNote is in the fields */
+    int may_have_notes;                /* whether a tag of `judging` may be in it */
+};
+
+static int has_tag(const struct bytes *block, const struct bytes *tags)
+{
+    size_t first = block->start[0] == 'I';
+
+    for (size_t i = 0; i + 1 < tags->length; i += 2) {
+        const unsigned char *at = block->start, *last = block->start + block->length - 1;
+
+        while ((at = memchr(at, tags->start[i + first], (size_t)(last - at))) != NULL) {
+            if (at[1] == tags->start[i + 1 - first]) {
+                return 1;
+            }
+            at++;
+        }
+    }
+    return 0;
+}
+
+/* Judges a block of Exif or IPTC, whose fields are added to `fields`. */
+static int judge_block(const struct calls *calls, const struct judging *judging, const struct bytes *block, int is_record, struct out *fields,
+                       struct judged *judged)
+{
+    unsigned char room[ROOM];
+    struct out digests, json;
+    struct bytes form;
+    int done;
+
+    /* one that isn't of its place, or says nothing */
+    if (block->length == 0 || (block->start[0] == 0x1C) != is_record) {
+        return LEFT;
+    }
+    if (!is_record && (block->length < 10 || (block->start[8] == 0 && block->start[9] == 0))) {
+        return LEFT;
+    }
+    done = get_form(calls->normalise, block, room, &form);
+    if (done != MADE) {
+        return done;
+    }
+    begin(&digests);
+    begin(&json);
+    done = put_digest(&digests, judging->sha256, block->start, block->length, DIGITS);
+    if (done == MADE && form.length == block->length && memcmp(form.start, block->start, form.length) == 0) {
+        put(&digests, digests.at, DIGITS);
+    } else if (done == MADE) {
+        done = put_digest(&digests, judging->sha256, form.start, form.length, DIGITS);
+    }
+    if (done == MADE) {
+        done = put_form(calls, judging->sha256, form.start, form.length, &json, judged->note);
+    }
+    if (done == MADE) {
+        memcpy(judged->digests, digests.at, sizeof judged->digests);
+        put(fields, json.at, json.length);
+        judged->may_have_notes = !is_record && has_tag(block, &judging->tags);
+    }
+    end(&json);
+    end(&digests);
+    end_form(&form, room);
+    return done;
+}
+
+/* The same of a packet. */
+static int judge_packet(const struct calls *calls, const struct judging *judging, const struct bytes *block, struct out *fields,
+                        struct judged *judged)
+{
+    struct packet packet;
+    struct out digest;
+    int done;
+
+    packet.sha256 = judging->sha256;
+    packet.short_name = judging->short_name;
+    packet.line_of = judging->line_of;
+    begin_packet(&packet);
+    begin(&digest);
+    done = read_packet(calls, block, &packet);
+    if (done == MADE) {
+        done = put_digest(&digest, judging->sha256, block->start, block->length, DIGITS);
+    }
+    if (done == MADE) {
+        memcpy(judged->digests, digest.at, DIGITS);
+        memcpy(judged->digests + DIGITS, packet.lines.at, DIGITS);
+        put(fields, packet.sorted.at, packet.sorted.length);
+    }
+    end(&digest);
+    end_packet(&packet);
+    return done;
 }
 
 /* ---- the head of a JPEG */
 
-/* What a segment is that begins like one of these, which are tuples of a marker, octets and that: borrowed. NULL if it is none, or with an
- * exception. */
-static PyObject *name_of(PyObject *marks, uint32_t marker, const unsigned char *data, size_t size)
+#define VERSION 1        /* of the bytes that are made of a head; _jpeg.py has the same */
+#define RESOURCE 0x10000 /* and the number of one of Photoshop's resources: a rest that is no segment */
+
+/* Which of these a segment begins like, which are tuples that begin with a marker and octets. LEFT if it is none, FAILED with an exception. */
+static int find_mark(PyObject *marks, uint32_t marker, const unsigned char *data, size_t size, uint64_t *which)
 {
     for (Py_ssize_t i = 0; i < PyTuple_Size(marks); i++) {
         PyObject *mark = PyTuple_GetItem(marks, i), *octets = PyTuple_GetItem(mark, 1);
@@ -1007,29 +1170,33 @@ static PyObject *name_of(PyObject *marks, uint32_t marker, const unsigned char *
         struct bytes bytes = {NULL, 0};
 
         if (number == -1 || get_bytes(octets, &bytes) < 0) {
-            return NULL;
+            return FAILED;
         }
         if (number == (long)marker && size >= bytes.length && memcmp(data, bytes.start, bytes.length) == 0) {
-            return PyTuple_GetItem(mark, 2);
+            *which = (uint64_t)i;
+            return MADE;
         }
     }
-    return NULL;
+    return LEFT;
 }
 
-/* Adds what a part is, where it begins, and its length to a list; -1 with an exception. Takes over `what`, which may be NULL with one. */
-static int add_rest(PyObject *rest, PyObject *what, size_t at, size_t length)
+static void put_word(struct out *out, uint64_t word)
 {
-    PyObject *row = what == NULL ? NULL : Py_BuildValue("(Nnn)", what, (Py_ssize_t)at, (Py_ssize_t)length);
-    int done = row == NULL ? -1 : PyList_Append(rest, row);
-
-    Py_XDECREF(row);
-    return done;
+    put(out, &word, sizeof word);
 }
 
-/* The data of IPTC in Photoshop's resources, whose others are added to a list by their numbers. LEFT if these have more than one, or something
- * else that is looked at; FAILED with an exception. */
+/* Puts what a part is, where it begins, and its length. */
+static void put_rest(struct out *rests, uint64_t what, size_t at, size_t length)
+{
+    put_word(rests, what);
+    put_word(rests, at);
+    put_word(rests, length);
+}
+
+/* The data of IPTC in Photoshop's resources, of which the others are rests by their numbers. LEFT if these have more than one, or something else
+ * that is looked at. */
 static int find_record(const struct calls *calls, const struct bytes *bytes, const struct bytes *run, struct bytes *record, struct bytes *sum,
-                       PyObject *rest)
+                       struct out *rests)
 {
     const unsigned char *data = run->start;
     size_t size = run->length;
@@ -1049,8 +1216,8 @@ static int find_record(const struct calls *calls, const struct bytes *bytes, con
         if (found != NULL) {
             found->start = data + rows[i].start;
             found->length = rows[i].size;
-        } else if (add_rest(rest, PyLong_FromLong((long)rows[i].number), (size_t)(data - bytes->start) + rows[i].start, rows[i].size) < 0) {
-            return FAILED;
+        } else {
+            put_rest(rests, RESOURCE + rows[i].number, (size_t)(data - bytes->start) + rows[i].start, rows[i].size);
         }
         after = rows[i].start + rows[i].size + rows[i].size % 2;
     }
@@ -1079,10 +1246,10 @@ static int is_scan(const struct bytes *bytes, size_t at, size_t size)
     return 0;
 }
 
-/* Finds the blocks of a JPEG by the numbers of their kinds, whether only picture data follow its head, and where these begin. LEFT of one with
- * anything that is rare; FAILED with an exception. Adds the parts of `without` to a list. */
+/* Finds the blocks of a JPEG by the numbers of their kinds, where the picture data begin, and the rests that `without` has. LEFT of one with
+ * anything that is rare; FAILED with an exception. */
 static int find_blocks(const struct calls *calls, const struct bytes *bytes, PyObject *without, struct bytes *found, size_t *at, size_t *after,
-                       PyObject *rest)
+                       struct out *rests)
 {
     static const size_t marks[] = {0, 6, 14, 29};
     struct exifnorm_jpeg_part parts[FEW];
@@ -1104,15 +1271,13 @@ static int find_blocks(const struct calls *calls, const struct bytes *bytes, PyO
             continue;
         }
         if (kind == EXIFNORM_JPEG_OTHER) {
-            PyObject *name = name_of(without, marker, data, parts[i].size);
+            uint64_t which = 0;
+            int done = find_mark(without, marker, data, parts[i].size, &which);
 
-            if (name == NULL) {
-                return PyErr_Occurred() == NULL ? LEFT : FAILED;
+            if (done != MADE) {
+                return done;
             }
-            Py_INCREF(name);
-            if (add_rest(rest, name, parts[i].start, parts[i].size) < 0) {
-                return FAILED;
-            }
+            put_rest(rests, which, parts[i].start, parts[i].size);
             continue;
         }
         if (kind < EXIFNORM_JPEG_EXIF || kind > EXIFNORM_JPEG_XMP || !parts[i].begins || found[kind].start != NULL) {
@@ -1126,39 +1291,141 @@ static int find_blocks(const struct calls *calls, const struct bytes *bytes, PyO
     return MADE;
 }
 
+#define KINDS_OF_BLOCKS 3 /* XMP, Exif and IPTC, in this order */
+
+/* What is known of the head of a JPEG. */
+struct head {
+    struct bytes bytes, block[KINDS_OF_BLOCKS], sum; /* Photoshop's sum of IPTC */
+    size_t at[KINDS_OF_BLOCKS];                      /* of the segments */
+    size_t after;                                    /* the header of the first scan */
+    struct out rests;
+};
+
+/* LEFT of a JPEG with more than one block of a kind, one in several pieces, or anything that is rare. */
+static int read_usual(const struct calls *calls, PyObject *without, struct head *head)
+{
+    struct bytes found[4] = {{NULL, 0}, {NULL, 0}, {NULL, 0}, {NULL, 0}}, record = {NULL, 0};
+    size_t at[4] = {0, 0, 0, 0};
+    int done = find_blocks(calls, &head->bytes, without, found, at, &head->after, &head->rests);
+
+    if (done == MADE && found[EXIFNORM_JPEG_PHOTOSHOP].start != NULL) {
+        done = find_record(calls, &head->bytes, &found[EXIFNORM_JPEG_PHOTOSHOP], &record, &head->sum, &head->rests);
+    }
+    head->block[0] = found[EXIFNORM_JPEG_XMP];
+    head->at[0] = at[EXIFNORM_JPEG_XMP];
+    head->block[1] = found[EXIFNORM_JPEG_EXIF];
+    head->at[1] = at[EXIFNORM_JPEG_EXIF];
+    if (record.length > 0) {
+        head->block[2] = record;
+    }
+    head->at[2] = at[EXIFNORM_JPEG_PHOTOSHOP];
+    return done;
+}
+
+/* Puts a block, and its fields apart from it: its kind, the segment, where it begins, its length, that of its fields and one more, or 0 if Python
+ * has to judge it, where the MakerNote is in these, whether there may be notes, and the digests. */
+static int put_block(const struct calls *calls, const struct judging *judging, const struct head *head, size_t kind, struct out *rows,
+                     struct out *fields)
+{
+    const struct bytes *block = &head->block[kind];
+    struct judged judged = {{0}, {0, 0}, 0};
+    size_t before = fields->length;
+    int done = LEFT;
+
+    if (judging->sha256 != NULL) {
+        done = kind == 0 ? judge_packet(calls, judging, block, fields, &judged)
+                         : judge_block(calls, judging, block, kind == 2, fields, &judged);
+    }
+    if (done == FAILED) {
+        return FAILED;
+    }
+    put_word(rows, kind);
+    put_word(rows, head->at[kind]);
+    put_word(rows, (size_t)(block->start - head->bytes.start));
+    put_word(rows, block->length);
+    put_word(rows, done == MADE ? fields->length - before + 1 : 0);
+    put_word(rows, judged.note[0]);
+    put_word(rows, judged.note[1]);
+    put_word(rows, (uint64_t)judged.may_have_notes);
+    put(rows, judged.digests, sizeof judged.digests);
+    return MADE;
+}
+
+/* All that is known of a head as bytes: words of eight bytes in the order of the machine, of which the first ones are the version, and the number
+ * of all bytes. Rests, blocks and their fields follow. */
+static PyObject *head_as_bytes(const struct calls *calls, const struct judging *judging, const struct head *head, int is_all)
+{
+    unsigned char sum[16] = {0};
+    struct out made, rows, fields;
+    uint64_t count = 0, length;
+    PyObject *object = NULL;
+    int done = MADE;
+
+    begin(&made);
+    begin(&rows);
+    begin(&fields);
+    for (size_t kind = 0; kind < KINDS_OF_BLOCKS && done == MADE; kind++) {
+        if (head->block[kind].start != NULL) {
+            done = put_block(calls, judging, head, kind, &rows, &fields);
+            count++;
+        }
+    }
+    put_word(&made, VERSION);
+    put_word(&made, 0);
+    put_word(&made, head->after);
+    put_word(&made, (uint64_t)is_all);
+    put_word(&made, head->rests.length / (3 * sizeof(uint64_t)));
+    put_word(&made, count);
+    put_word(&made, head->sum.length < sizeof sum ? head->sum.length : sizeof sum);
+    if (head->sum.start != NULL) {
+        memcpy(sum, head->sum.start, head->sum.length < sizeof sum ? head->sum.length : sizeof sum);
+    }
+    put(&made, sum, sizeof sum);
+    put(&made, head->rests.at, head->rests.length);
+    put(&made, rows.at, rows.length);
+    put(&made, fields.at, fields.length);
+    if (done == MADE && (made.failed || rows.failed || fields.failed || head->rests.failed)) {
+        PyErr_NoMemory();
+    } else if (done == MADE) {
+        length = made.length;
+        memcpy(made.at + sizeof length, &length, sizeof length);
+        object = PyBytes_FromStringAndSize((const char *)made.at, (Py_ssize_t)made.length);
+    }
+    end(&fields);
+    end(&rows);
+    end(&made);
+    return object;
+}
+
 /* Of a JPEG whose head has at most one block of a kind, each in one piece, and nothing rare: where its first scan begins, whether that is all of
- * the rest, for XMP, Exif and IPTC the offset of the segment and the block, Photoshop's sum, and the parts that can have no metadata, each with
- * its name or the number of its resource, its offset and its length; None of any other. */
+ * the rest, the parts that can have no metadata, and the blocks, each with what it means, if Python gives what is needed to judge it. None of any
+ * other. _jpeg.py reads these bytes. */
 static PyObject *jpeg_head(PyObject *capsule, PyObject *arguments)
 {
     const struct calls *calls = PyCapsule_GetPointer(capsule, NULL);
-    struct bytes bytes, found[4] = {{NULL, 0}, {NULL, 0}, {NULL, 0}, {NULL, 0}}, record = {NULL, 0}, sum = {NULL, 0};
-    const struct bytes *exif = &found[EXIFNORM_JPEG_EXIF], *xmp = &found[EXIFNORM_JPEG_XMP], *run = &found[EXIFNORM_JPEG_PHOTOSHOP];
-    size_t at[4] = {0, 0, 0, 0}, after = 0;
-    PyObject *object, *without, *rest, *made = NULL;
+    struct judging judging = {NULL, NULL, NULL, {NULL, 0}};
+    PyObject *object, *without, *helpers, *tags, *made = NULL;
+    struct head head;
     Py_ssize_t size;
     int done;
 
-    if (calls == NULL || !PyArg_ParseTuple(arguments, "SnO!", &object, &size, &PyTuple_Type, &without) || get_bytes(object, &bytes) < 0) {
+    if (calls == NULL || !PyArg_ParseTuple(arguments, "SnO!O", &object, &size, &PyTuple_Type, &without, &helpers)) {
         return NULL;
     }
-    rest = PyList_New(0);
-    if (rest == NULL) {
+    memset(&head, 0, offsetof(struct head, rests));
+    if (get_bytes(object, &head.bytes) < 0
+        || (helpers != Py_None
+            && (!PyArg_ParseTuple(helpers, "OOOS", &judging.sha256, &judging.short_name, &judging.line_of, &tags)
+                || get_bytes(tags, &judging.tags) < 0))) {
         return NULL;
     }
-    done = find_blocks(calls, &bytes, without, found, at, &after, rest);
-    if (done == MADE && run->start != NULL) {
-        done = find_record(calls, &bytes, run, &record, &sum, rest);
-    }
+    begin(&head.rests);
+    done = read_usual(calls, without, &head);
     if (done == LEFT) {
         made = Py_BuildValue("");
     } else if (done == MADE) {
-        made = Py_BuildValue("(ni(ny#)(ny#)(ny#)y#O)", (Py_ssize_t)after, size < 0 ? 0 : is_scan(&bytes, after, (size_t)size),
-                             (Py_ssize_t)at[EXIFNORM_JPEG_XMP], xmp->start, (Py_ssize_t)xmp->length,
-                             (Py_ssize_t)at[EXIFNORM_JPEG_EXIF], exif->start, (Py_ssize_t)exif->length,
-                             (Py_ssize_t)at[EXIFNORM_JPEG_PHOTOSHOP], record.length == 0 ? NULL : record.start, (Py_ssize_t)record.length,
-                             sum.start == NULL ? (const unsigned char *)"" : sum.start, (Py_ssize_t)(sum.length < 16 ? sum.length : 16), rest);
+        made = head_as_bytes(calls, &judging, &head, size >= 0 && is_scan(&head.bytes, head.after, (size_t)size));
     }
-    Py_DECREF(rest);
+    end(&head.rests);
     return made;
 }

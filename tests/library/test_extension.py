@@ -70,11 +70,12 @@ PICTURES = {
 MOST = [-(1 << 63), -1, 0, 1, 2, 63, 64, 65, 999, 1000, 1001, (1 << 63) - 1]
 PACKETS = [*small_packets(), b"", b"x", b"<a>", small_packets()[0] + 20_000 * b" "]
 OF_PACKETS = ("xmp_normalise", "xmp_unsorted")
+JUDGING = (hashlib.sha256, str, lambda octets: b"[]", b"\x92\x7c")
 # What is made for catalogues, whose results test_packed.py compares with Python's
 PACKED = {
     "packed": [(it, hashlib.sha256) for it in (ONE, CAPTION, BLOCKS["a text in 8,191 bytes"], b"", b"x")],
-    "xmp_packed": [(it, hashlib.sha256, str, lambda octets: b"[]") for it in PACKETS],
-    "jpeg_head": [(it, 100, ((0xE0, b"JFIF", "JFIF"),)) for it in (PICTURE, *PICTURES.values())],
+    "xmp_packed": [(it, *JUDGING[:3]) for it in PACKETS],
+    "jpeg_head": [(it, 100, ((0xE0, b"JFIF", "JFIF"),), how) for it in (PICTURE, *PICTURES.values()) for how in (None, JUDGING)],
 }
 # The arguments of each call of the library.
 ARGUMENTS = {
@@ -303,11 +304,11 @@ def test_allocations_of_functions_that_fail(loaded, native, refusing):
 
 # The part of the stable ABI that it uses, with what CPython 3.9 has of it: "Contents of Limited API" in Python's documentation.
 STABLE = """PyArg_UnpackTuple PyBytes_AsString PyBytes_AsStringAndSize PyBytes_FromStringAndSize PyBytes_Type PyCMethod_New
-    PyCapsule_GetPointer PyCapsule_New PyErr_NoMemory PyErr_Occurred PyErr_SetString PyEval_RestoreThread PyEval_SaveThread PyExc_ValueError
-    PyList_Append PyList_New PyLong_AsLong PyLong_FromLong PyLong_FromUnsignedLong PyMem_Calloc PyMem_Free PyMem_Malloc PyMem_Realloc PyModuleDef_Init PyModule_GetState
+    PyCapsule_GetPointer PyCapsule_New PyErr_NoMemory PyErr_SetString PyEval_RestoreThread PyEval_SaveThread PyExc_ValueError
+    PyLong_AsLong PyLong_FromUnsignedLong PyMem_Calloc PyMem_Free PyMem_Malloc PyMem_Realloc PyModuleDef_Init PyModule_GetState
     PyObject_IsTrue PyTuple_GetItem PyTuple_New PyTuple_SetItem PyTuple_Size PyTuple_Type PyUnicode_AsUTF8String PyUnicode_DecodeUTF8
     Py_DecRef Py_IncRef _PyArg_ParseTupleAndKeywords_SizeT _PyArg_ParseTuple_SizeT _PyObject_CallFunction_SizeT
-    _PyObject_CallMethod_SizeT _Py_BuildValue_SizeT _Py_Dealloc""".split()
+    _PyObject_CallMethod_SizeT _Py_BuildValue_SizeT _Py_Dealloc _Py_NoneStruct""".split()
 
 
 def test_symbols(extension):

@@ -7,7 +7,7 @@ import random
 import pytest
 
 import made_by_tools
-from exifnorm import _library
+from exifnorm import LibraryMissing, _jpeg, _library
 from exifnorm_pictures.extract.formats import jpeg
 from exifnorm_pictures.judge import judge
 from jpeg_made import COMMENT, EXTENSION, PICTURE, SCAN, exif, iptc, packet, photoshop, picture, resource, segment
@@ -103,10 +103,21 @@ def test_usual_pictures_are_not_left(native, shared, monkeypatch):
     """The module makes all of a picture as programs write it."""
     monkeypatch.setattr(_library, "_native", native)
     library = _library.Library(str(shared))
-    assert library.jpeg_head(PICTURE, len(PICTURE), ((0xFE, b"", "comment"),))[0] == len(PICTURE) - len(b"data\xff\xd9")
+    whole = picture(COMMENT, packet(PACKETS[0]), exif(ONE), iptc(CAPTION), end=BEHIND)
+    end, *_, blocks = _jpeg.usual_head(library.jpeg_head(whole, len(whole), ((0xFE, b"", "comment"),), jpeg._JUDGING))
+    assert end == len(whole) - len(BEHIND) + len(SCAN) and [it[0] for it in blocks if it[-1]] == [0, 1, 2]
     forms = [form for form in map(library.normalise, BLOCKS + RECORDS) if isinstance(form, bytes)]
     assert len(forms) > 4 and all(library.packed(form, hashlib.sha256) for form in forms)
     assert sum(library.xmp_packed(it, hashlib.sha256, str, lambda octets: b"[]") is not None for it in PACKETS) > 10
+
+
+def test_a_module_of_another_release(native, shared, monkeypatch):
+    """What it makes of a head has another version, or another length than it says: it isn't read."""
+    monkeypatch.setattr(_library, "_native", native)
+    made = _library.Library(str(shared)).jpeg_head(picture(exif(ONE), end=BEHIND), 1, (), jpeg._JUDGING)
+    for other in (b"", made[:8], made[:-1], made + b"\0", bytes(8) + made[8:], b"\xff" * len(made)):
+        with pytest.raises(LibraryMissing, match="another release"):
+            _jpeg.usual_head(other)
 
 
 JFIF = picture(segment(0xE0, b"JFIF\0"), end=BEHIND)
@@ -119,11 +130,15 @@ WRONG = [
     ("xmp_packed", (PACKETS[0], hashlib.sha256, None, bytes)),
     ("xmp_packed", (PACKETS[4], hashlib.sha256, str, lambda octets: 5)),
     ("jpeg_head", (PICTURE, 1)),
-    ("jpeg_head", (PICTURE, 1, [])),
-    ("jpeg_head", (JFIF, 1, (5,))),
-    ("jpeg_head", (JFIF, 1, (("", b"JFIF"),))),
-    ("jpeg_head", (JFIF, 1, ((0xE0, b"JFIF"),))),
-    ("jpeg_head", (JFIF, 1, ((0xE0, "JFIF"),))),
+    ("jpeg_head", (PICTURE, 1, [], None)),
+    ("jpeg_head", (JFIF, 1, (5,), None)),
+    ("jpeg_head", (JFIF, 1, (("", b"JFIF"),), None)),
+    ("jpeg_head", (JFIF, 1, ((0xE0, "JFIF"),), None)),
+    ("jpeg_head", (JFIF, 1, ((0xE0, b"JFIF"),), (hashlib.sha256,))),
+    ("jpeg_head", (JFIF, 1, ((0xE0, b"JFIF"),), (hashlib.sha256, str, bytes, ""))),
+    ("jpeg_head", (picture(exif(ONE), end=BEHIND), 1, (), (None, str, bytes, b""))),
+    ("jpeg_head", (picture(exif(ONE), end=BEHIND), 1, (), (lambda octets: 5, str, bytes, b""))),
+    ("jpeg_head", (picture(packet(PACKETS[0]), end=BEHIND), 1, (), (hashlib.sha256, None, bytes, b""))),
 ]
 
 

@@ -118,7 +118,6 @@ sqlite3.register_adapter(bytes, bytes)
 for _words in (Status, Problem):
     sqlite3.register_adapter(_words, str.__str__)
 
-# A row that replaces another of the same path takes the other's blocks and parts with it, by ON DELETE CASCADE.
 _PUT_PICTURE = f"INSERT OR REPLACE INTO pictures ({PICTURE_COLUMNS}, run) VALUES (?{', ?' * PICTURES.width})"
 _PUT_BLOCK = f"INSERT INTO blocks (picture, number, {BLOCK_COLUMNS}) VALUES (?, ?{', ?' * BLOCKS.width})"
 _ADD_ROWS = (
@@ -374,15 +373,11 @@ def connect(name: str, uri: bool = True) -> sqlite3.Connection:
     base = sqlite3.connect(name, timeout=60, isolation_level=None, uri=uri)
     if sys.version_info >= (3, 11):
         base.setlimit(sqlite3.SQLITE_LIMIT_LENGTH, ROW_BYTES)
-    base.set_progress_handler(_pause, SQL_STEPS)
+    # which lets Python heed a signal. What its handler raises ends the query, and is raised again by `signals.go_on_stopping`
+    base.set_progress_handler(lambda: 0, SQL_STEPS)
     for pragma in ("trusted_schema = OFF", "cell_size_check = ON", "foreign_keys = ON"):
         base.execute(f"PRAGMA {pragma}")
     return base
-
-
-def _pause() -> int:
-    """Lets Python heed a signal. What its handler raises ends the query, and is raised again by `signals.go_on_stopping`."""
-    return 0
 
 
 Part = tuple[str, str, str]  # of a schema: its kind, its name, and how it was made
@@ -854,12 +849,9 @@ class Catalogue:
     def copy_to(self, name: str) -> None:
         """Copies the whole catalogue to another file."""
         with self.guarded():
-            other = sqlite3.connect(name)
-            try:
+            with contextlib.closing(sqlite3.connect(name)) as other:
                 self.base.backup(other)
                 other.execute("PRAGMA journal_mode = DELETE")
-            finally:
-                other.close()
 
 
 def _bounded(factory: Callable[[tuple[Any, ...]], Made]) -> Callable[[tuple[Any, ...]], Made]:
@@ -889,20 +881,17 @@ def make_rows(base: sqlite3.Connection) -> None:
 
 
 def put_rows(base: sqlite3.Connection, run: int, first: int, entries: Iterable[PictureRecord]) -> None:
-    """Adds rows for some pictures, which get the numbers from `first` on."""
-    numbered = list(enumerate(entries, first))
+    """Adds rows for some pictures, which get the numbers from `first` on. A row that replaces another of the same path takes the other's blocks
+    and parts with it, by ON DELETE CASCADE."""
+    numbered, blocks = list(enumerate(entries, first)), []
     base.executemany(_PUT_PICTURE, [(number, *it[1 : PICTURES.width], run) for number, it in numbered])
-    base.executemany(_PUT_BLOCK, [(number, *row) for number, it in numbered for row in _rows_of_blocks(it.blocks)])
+    for number, it in numbered:
+        cells = joined([block.fields for block in it.blocks])
+        blocks += [(number, at, *block[: BLOCKS.width - 1], cell) for at, (block, cell) in enumerate(zip(it.blocks, cells))]
+    base.executemany(_PUT_BLOCK, blocks)
     base.executemany("INSERT INTO maker_notes VALUES (?, ?)", [(number, it.notes) for number, it in numbered if it.notes])
-    parts = [(number, at, part.what, part.digest) for number, it in numbered for at, part in enumerate(it.unread)]
+    parts = [(number, at, *part) for number, it in numbered for at, part in enumerate(it.unread)]
     base.executemany("INSERT INTO not_read VALUES (?, ?, ?, ?)", parts)
-
-
-def _rows_of_blocks(blocks: Sequence[BlockRecord]) -> Iterator[tuple[object, ...]]:
-    """The number of each block of a picture, and its columns, of which the fields are the last one."""
-    cells = joined([block.fields for block in blocks])
-    for number, (block, cell) in enumerate(zip(blocks, cells)):
-        yield (number, *block[: BLOCKS.width - 1], cell)
 
 
 def root_of_row(row: tuple[bytes]) -> bytes:
@@ -916,6 +905,5 @@ def _run_of_row(row: Run) -> Run:
     return row
 
 
-def _known(row: tuple[int, int | None, int, int, int, int, str | None, str | None, str]) -> Known:
-    number, size, modified, changed, inode, device, problem, coded, sidecars = row
-    return Known(number, None if size is None else Stamp(size, modified, changed, inode, device), problem, coded, sidecars)
+def _known(row: tuple[Any, ...]) -> Known:
+    return Known(row[0], None if row[1] is None else Stamp._make(row[1:6]), *row[6:])

@@ -251,7 +251,7 @@ def gaps(block: bytes, covered: list[tuple[int, int]]) -> list[Gap]:
 
 def may_have_notes(block: bytes) -> bool:
     """Whether a block has the tag of a MakerNote or of another private pointer anywhere: a quick test, which is true of some blocks without one."""
-    return any(tag in block for tag in (_LITTLE if block[:1] == b"I" else _BIG))
+    return any(tag in block for tag in (_LITTLE if block[:1] == b"I" else PRIVATE_TAGS))
 
 
-_LITTLE, _BIG = (tuple(struct.pack(order + "H", tag) for tag in PRIVATE) for order in "<>")
+_LITTLE, PRIVATE_TAGS = (tuple(struct.pack(order + "H", tag) for tag in PRIVATE) for order in "<>")

@@ -7,6 +7,7 @@ from itertools import islice, starmap
 from typing import Iterable
 
 from exifnorm._forms import _READ, Place, places
+from exifnorm._jpeg import digest_but_note
 from exifnorm._library import library
 
 from ..model.budgets import ALL_FIELDS, FIELD_BYTES, FIELDS, Budget
@@ -39,9 +40,7 @@ def packed_form(form: bytes) -> Packed:
     made = library().packed(form, hashlib.sha256)
     if not made or len(made[0]) > FIELD_BYTES:
         return packed(fields_of_form(form))
-    octets, note, end = made
-    others = (octets[1:note] + octets[end:-1]).lstrip(b",")
-    return Packed(octets, hashlib.blake2b(others, digest_size=32).hexdigest() if end else None)
+    return Packed(made[0], digest_but_note(*made))
 
 
 def count(form: bytes, budget: Budget) -> None:

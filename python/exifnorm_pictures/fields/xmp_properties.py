@@ -36,14 +36,14 @@ def packed_packet(packet: bytes, budget: Budget) -> tuple[str, bytes] | None:
     """The digest of a packet's statements and its packed fields by the extension module; None if that isn't there, or leaves the packet to
     Python."""
     is_small = budget.small_packets and len(packet) <= SMALL
-    made = is_small and library().xmp_packed(packet, hashlib.sha256, short_name, _line_of)
+    made = is_small and library().xmp_packed(packet, hashlib.sha256, short_name, line_of)
     if not made:
         return None
     budget.small_packets -= 1
     return made  # type: ignore[no-any-return]
 
 
-def _line_of(octets: bytes) -> bytes:
+def line_of(octets: bytes) -> bytes:
     """The packed field of one property of a form."""
     return packed(fields_of_statements(of_form(_HEAD.encode() + octets + _TAIL.encode()))).octets[1:-1]
 

@@ -34,9 +34,11 @@ class Columns(Generic[Record]):
 
     def __init__(self, record: type[Record], first: Iterable[str] = (), last: Iterable[str] = ()) -> None:
         """`first` and `last` are further definitions in SQL, each with what it is after `--`."""
-        declared = {name: kind for name, kind in record.__annotations__.items() if hasattr(kind, "__metadata__")}
-        about = [(name, kind, more) for name, kind in declared.items() for more in kind.__metadata__]  # of which each has one
-        columns = [(name, kind.__origin__, more if isinstance(more, Is) else Is(more)) for name, kind, more in about]
+        columns = [
+            (name, kind.__origin__, more if isinstance(more, Is) else Is(more))
+            for name, kind in record.__annotations__.items()
+            for more in getattr(kind, "__metadata__", ())
+        ]
         self.names = tuple(name for name, _, _ in columns)
         self.types: list[Any] = [get_args(kind) or kind for _, kind, _ in columns]  # those of a row's values
         self.longest = [more.longest for _, _, more in columns]

@@ -5,6 +5,7 @@ Each definition is also that of its table: what a field says of its column is wr
 
 import hashlib
 import itertools
+import operator
 import os
 from typing import Annotated, Any, NamedTuple, Optional, Sequence
 
@@ -93,11 +94,7 @@ class BlockRecord(NamedTuple):
 _LEAST, _GREATEST = -(1 << 63), (1 << 63) - 1
 
 
-def _in_64_bits(number: int) -> int:
-    """A number as a signed one of 64 bits, as SQLite keeps it: times after the year 2262 and large inodes have more."""
-    return (number - _LEAST) % (1 << 64) + _LEAST
-
-
+_MARKS = operator.attrgetter("st_size", "st_mtime_ns", "st_ctime_ns", "st_ino", "st_dev")
 RACY = -1  # the ctime of a file that may be edited again without a mark
 
 
@@ -112,10 +109,11 @@ class Stamp(NamedTuple):
 
     @classmethod
     def of(cls, status: os.stat_result) -> "Stamp":
-        marks = (status.st_size, status.st_mtime_ns, status.st_ctime_ns, status.st_ino, status.st_dev)
-        if min(marks) >= _LEAST and max(marks) <= _GREATEST:
+        marks = size, modified, changed, inode, device = _MARKS(status)
+        if 0 <= size | modified | changed | inode | device <= _GREATEST:  # each is in this range, as nearly always
             return tuple.__new__(cls, marks)
-        return cls._make(map(_in_64_bits, marks))
+        # signed ones of 64 bits, as SQLite keeps numbers: times after the year 2262 and large inodes have more
+        return cls._make((it - _LEAST) % (1 << 64) + _LEAST for it in marks)
 
     @classmethod
     def at(cls, path: bytes) -> "Optional[Stamp]":
@@ -197,12 +195,11 @@ class PictureRecord(NamedTuple):
             others["damage"] = fault
         if not problem:  # of one with a problem nothing is known
             others.update(_compared(blocks, unread))
-        values: list[Any] = list(cls._field_defaults.values())  # in a third of the time of a call with so many names
-        values[1:12] = path, root, *(stamp or _NO_STAMP), type, extractor, problem, detail
-        values[_PLACES["blocks"]], values[_PLACES["unread"]] = tuple(blocks), tuple(unread)
-        for name, value in others.items():
+        others.update(blocks=tuple(blocks), unread=tuple(unread))
+        values = [0, path, root, *(stamp or _NO_STAMP), type, extractor, problem, detail, *_OTHERS]
+        for name, value in others.items():  # in a third of the time of a call with so many names
             values[_PLACES[name]] = value
-        return cls._make(values)
+        return tuple.__new__(cls, values)
 
     @classmethod
     def of_blocks(
@@ -229,7 +226,7 @@ class PictureRecord(NamedTuple):
     def programs(self) -> set[str]:
         """The other programs that have read something of it, if it was looked at just now."""
         names = {self.extractor, *[block.extractor for block in self.blocks]}
-        return {name for name in names if name in PROGRAMS} | ({EXIFTOOL} if self.notes else set())
+        return names & PROGRAMS.keys() | ({EXIFTOOL} if self.notes else set())
 
     @property
     def not_known(self) -> list[str]:
@@ -291,22 +288,26 @@ def is_same_file(picture: PictureRecord, other: PictureRecord) -> bool:
 
 
 _PLACES = {name: number for number, name in enumerate(PictureRecord._fields)}
+_OTHERS = tuple(PictureRecord._field_defaults.values())[_PLACES["detail"] + 1 :]
 _NO_STAMP = (None,) * len(Stamp._fields)
 
 
 def _compared(blocks: Sequence[BlockRecord], unread: Sequence[NotRead]) -> dict[str, Any]:
     """What is compared of a picture: columns by their names."""
-    known: dict[str, Any] = {}
-    for kind in KINDS:
-        side = side_of([it for it in blocks if it.kind == kind])
-        known[kind] = side.digest if side.status in (Status.ACCEPTED, Status.ABSENT) else None
+    known: dict[str, Any] = _NOTHING.copy()
+    for kind in {it.kind for it in blocks}:
+        ours = [it for it in blocks if it.kind == kind]
+        side = side_of(ours)
+        known[kind] = side.digest if side.status == Status.ACCEPTED else None
         known[f"{kind}_octets"] = side.octets
         if kind == EXIF:
-            known["exif_repaired"] = side.repaired or None
+            known.update(_maker_notes(ours), exif_repaired=side.repaired or None)
     not_read = known["not_read"] = _parts_digest(unread)
-    others = [part for part in unread if not part.what.endswith(REACHED)]
-    known["other_not_read"] = not_read and _parts_digest(others)
-    return {**known, **_maker_notes([it for it in blocks if it.kind == EXIF])}
+    known["other_not_read"] = not_read and _parts_digest([part for part in unread if not part.what.endswith(REACHED)])
+    return known
+
+
+_NOTHING = dict.fromkeys((*KINDS, *(f"{kind}_octets" for kind in KINDS)), "")  # of no block
 
 
 def _maker_notes(exif: Sequence[BlockRecord]) -> dict[str, str]:

@@ -41,6 +41,7 @@ class Side(NamedTuple):
 
 
 NO_BLOCK = Side(Status.ABSENT)
+_NAMES = frozenset(NAMES.values())
 
 
 def side_of(ours: Sequence[BlockRecord]) -> Side:
@@ -61,6 +62,6 @@ def of_all(blocks: Sequence[BlockRecord], digests: Sequence[str | None]) -> str:
 
 def joined(named: Sequence[tuple[str, str]]) -> str:
     """One digest for several blocks, by their names; that of the first block of a kind if it is alone."""
-    if len(named) == 1 and named[0][0] in NAMES.values():
+    if len(named) == 1 and named[0][0] in _NAMES:
         return named[0][1]
     return hashlib.sha256("\n".join(f"{name}: {digest}" for name, digest in named).encode("utf-8")).hexdigest()

@@ -2,7 +2,9 @@
 
 from __future__ import annotations
 
+import contextlib
 import hashlib
+import os
 import threading
 from collections import deque
 from concurrent.futures import Future, ThreadPoolExecutor
@@ -69,16 +71,10 @@ def _hashed(work: Iterator[FoundFile], threads: int) -> Iterator[tuple[FoundFile
 def digest(path: bytes, is_stopped: threading.Event | None = None) -> str:
     """SHA-256 of a file; empty if it can't be read, is mostly holes, or if nobody needs it any more."""
     whole = hashlib.sha256()
-    try:
-        number, size = opening.opened(path)
-        with open(number, "rb", buffering=0) as file:
-            if is_hollow(number, size, HOLES):
-                return ""
-            space = memoryview(bytearray(CHUNK))
-            while length := file.readinto(space):
-                whole.update(space[:length])
-                if is_stopped and is_stopped.is_set():
-                    return ""
-    except OSError:
-        return ""
-    return whole.hexdigest()
+    with contextlib.suppress(OSError), opening.reading(path) as file:
+        if is_hollow(file.fileno(), os.fstat(file.fileno()).st_size, HOLES):
+            return ""
+        while (piece := file.read(CHUNK)) and not (is_stopped and is_stopped.is_set()):
+            whole.update(piece)
+        return "" if piece else whole.hexdigest()
+    return ""

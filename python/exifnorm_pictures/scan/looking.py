@@ -129,17 +129,15 @@ def _pixels(path: bytes, blocks: Blocks) -> tuple[str | None, str | None, str, s
 
 def file_digest(path: bytes, blocks: Blocks, whole: bool) -> str:
     """SHA-256 of a whole file, if nothing else of it can be compared: no block of it was read, or a part has no digest."""
-    if not blocks.problem and all(it.digest for it in blocks.not_read):
-        return ""
-    if blocks.problem in (*NO_BYTES, Problem.NEEDS_EXIFTOOL):
+    has_digests = not blocks.problem and (not blocks.not_read or all(it.digest for it in blocks.not_read))
+    if has_digests or blocks.problem in (*NO_BYTES, Problem.NEEDS_EXIFTOOL):
         return ""
     return digest_of_file(path, WHOLE_FILE if not whole else 1 << 62)
 
 
 def failed(file: FoundFile, why: str) -> PictureRecord:
     """The result for a file at which a program or a process failed."""
-    blocks = Blocks(problem=Problem.TOOL_FAILED, detail=why)
-    return compared_with_before(file, PictureRecord.of_blocks(file.path, file.root, file.stamp, blocks))
+    return compared_with_before(file, PictureRecord.of(file.path, file.root, file.stamp, "", OWN, Problem.TOOL_FAILED, why))
 
 
 def _now() -> int:
@@ -160,8 +158,7 @@ def _unless_changed(file: FoundFile, began: int) -> Stamp | None:
     if now is None or file.stamp != now:
         return None
     times = (now.modified, now.changed)
-    is_old = began - max(times) > COARSE
-    if not began or not is_old and _is_racy(times, began):
+    if not began or began - max(times) <= COARSE and _is_racy(times, began):
         return now._replace(changed=RACY)
     return now
 

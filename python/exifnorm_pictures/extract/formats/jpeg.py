@@ -6,13 +6,18 @@ The segments of `RESTS` are rest. All other segments of applications are compare
 
 from __future__ import annotations
 
+import hashlib
 import re
 from typing import Iterator
 
+from exifnorm._jpeg import RESOURCE_REST, Judging, usual_head
 from exifnorm._library import library
 
+from ...fields.xmp_properties import line_of
 from ...model.budgets import RESOURCES, Budget, budget_of
-from ...model.found import CUT, EXIF, IPTC, REST, SIX, XMP, XMP_HEAD, Blocks, Broken, NotRead
+from ...model.found import CUT, EXIF, IPTC, NAMES, REST, SIX, XMP, XMP_HEAD, Blocks, Broken, NotRead
+from ...model.xmp_names import short_name
+from ..structure import PRIVATE_TAGS
 from . import mpf, photoshop
 from .extended_xmp import HEAD as EXTENDED, Pieces
 from .jpeg_segments import APP0, APP1, APP13, APP14, APP15, APP2, APP3, COM, SOI
@@ -33,7 +38,7 @@ _META = (b"Meta\0\0", b"META\0\0", b"Exif\0\0")  # Kodak's APP3, which has the s
 
 
 def read(stream: Stream, whole: bool = False) -> Blocks:
-    """The blocks of a JPEG. Raises `Broken`."""
+    """The blocks of a JPEG, and what the extension module knows of what they mean. Raises `Broken`."""
     budget = budget_of(stream)
     blocks = Blocks(type="JPEG", budget=budget)
     end = size_of(stream)
@@ -46,6 +51,8 @@ def read(stream: Stream, whole: bool = False) -> Blocks:
         if not blocks.blocks:
             raise
         blocks.not_read.append(NotRead(f"{REST} ({why})", digest_of(stream, head.end, end)))
+        return blocks
+    if head.is_all:
         return blocks
     if head.is_open:
         blocks.leave(f"{REST} (the file ends before its first scan, at {end})", b"")
@@ -81,16 +88,18 @@ class _Head:
     def read_usual(self, first: bytes, end: int) -> bool:
         """Reads the first picture of a file, of whose bytes these are the first, by the extension module, which leaves one with an unusual head
         to `read`."""
-        found = library().jpeg_head(first, end, RESTS)
-        if not found:
+        made = library().jpeg_head(first, end, RESTS, _JUDGING)
+        if not made:
             return False
-        self.end, self.is_all, *blocks, self.blocks.iptc_digest, rests = found
+        self.end, self.is_all, self.blocks.iptc_digest, rests, blocks = usual_head(made)
         self.has_scan = True
-        for kind, where, (at, data) in zip((XMP, EXIF, IPTC), _WHERE, blocks):
-            if data is not None:
-                self.blocks.add(kind, data, where % at)
+        for number, segment, at, length, judged in blocks:
+            kind, where = _WHERE[number]
+            self.blocks.add(kind, first[at : at + length], where % segment)
+            self.blocks.judged[NAMES[kind]] = judged
         for what, at, length in rests:
-            self._pass_over(what if isinstance(what, str) else photoshop.name_of(what), first[at : at + _FEW], length)
+            name = photoshop.name_of(what - RESOURCE_REST) if what >= RESOURCE_REST else RESTS[what][2]
+            self._pass_over(name, first[at : at + _FEW], length)
         return True
 
     def read(self, stream: Stream, start: int, budget: Budget, first: bytes = b"") -> None:
@@ -144,8 +153,14 @@ class _Head:
         self.blocks.pass_over(self._rest + self.of, length)
 
 
+# With these the extension module judges blocks
+_JUDGING: Judging = (hashlib.sha256, short_name, line_of, b"".join(PRIVATE_TAGS))
 _RESOURCES, _INDEX = "Photoshop resources", "MPF index"
-_WHERE = ("APP1 segment at %d", "APP1 segment at %d", "Photoshop resource 0404 in the APP13 segment at %d")
+_WHERE = (  # the blocks, as the extension module numbers them
+    (XMP, "APP1 segment at %d"),
+    (EXIF, "APP1 segment at %d"),
+    (IPTC, "Photoshop resource 0404 in the APP13 segment at %d"),
+)
 
 
 # Marks that the library doesn't know, in their segments, and what these have. All but that of an
@@ -196,8 +211,6 @@ def _pictures(blocks: Blocks, stream: Stream, index: tuple[int, bytes], first: i
 
 def _read_after(stream: Stream, head: _Head, end: int, whole: bool) -> None:
     """Reads the part after a picture's first scan, up to the next picture or the end of the file."""
-    if head.is_all:
-        return
     rest = tail(stream, head.end, end, whole) if head.has_scan else Tail([], min(head.end, end), True)
     for at, length in rest.segments:
         what = f"metadata segment behind the first scan{head.of}"

@@ -6,7 +6,7 @@ from __future__ import annotations
 from typing import NamedTuple
 
 import exifnorm
-from exifnorm._jpeg import PART_KINDS, PartRow, part_rows, whole_blocks
+from exifnorm._jpeg import PART_KINDS, PartRow, rows_or_fault, whole_blocks
 
 from ...model.budgets import SEGMENTS, SEGMENT_BYTES, Budget
 from .parts import COMMENT, PROFILE
@@ -103,13 +103,7 @@ _FAULTS = {"JpegCut": "the file ends inside the segment", "JpegNoMarker": "no ma
 def _parts(octets: bytes, budget: Budget) -> tuple[list[PartRow], str, int]:
     """The parts of a head, and the cause and the offset of its fault, if it has one. Raises `TooMuch`."""
     try:
-        return part_rows(octets, budget.left[SEGMENTS]), "", 0
-    except exifnorm.HeadRefused as why:
-        return (
-            [(marker, PART_KINDS.index(kind), begins, start, size) for marker, kind, begins, start, size in why.parts],
-            why.cause,
-            why.offset,
-        )
+        return rows_or_fault(octets, budget.left[SEGMENTS])
     except exifnorm.TooMany as many:
         budget.spend(SEGMENTS, many.most + 1)  # which raises
         raise
