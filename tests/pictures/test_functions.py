@@ -197,7 +197,9 @@ BOTH = [block("Exif"), block("second Exif", text="e", octets="p")]
 OCTETS_OF_BOTH = hashlib.sha256(b"Exif: o\nsecond Exif: p").hexdigest()
 LEAST, GREATEST = -(1 << 63), (1 << 63) - 1
 OWN = PictureRecord.of(b"/a", b"/", extractor="own")
-ODD = SimpleNamespace(is_odd=True, names=[b"x.jpg"], words=lambda: ["title: [-one-]{+two+}"])  # a group of one picture
+# a group of one picture
+ODD = SimpleNamespace(is_odd=True, names=[b"x.jpg"], words=lambda is_whole: ["title: [-one-]{+two+}"])
+LONG = SimpleNamespace(is_odd=True, names=[b"x.jpg"], words=lambda is_whole: [f"title: {'a' * 60 * is_whole}[-one-]{{+two+}}"])
 CLOSED = PictureRecord.of(b"/a\n/b", b"", problem="Unreadable", detail="permission denied")
 NOT_MADE = (block_record("failed", "OutOfMemory", None), block_record("too long", "NormalTooLong", None))
 IN_ORDER = "main 010f, exif 9003, gps 0001, thumb 0112, thumb ffff, thumb jpeg, thumb strip, iptc 2:5, iptc 2:25".split(", ")
@@ -284,6 +286,8 @@ RESULTS = [
     # the pictures of a night that changed like no other: 20 have their values, below a head and an empty line
     (lambda groups: list(letter.letter("a", [], [], groups)), ([ODD] * 20,), ["a", "", *["  x.jpg title: [-one-]{+two+}"] * 20]),
     (lambda groups: len([*letter.letter("a", [], [], groups)]), ([ODD] * 21,), 22),
+    # an edit in a long text: a line has room for what was edited, and not for the text around it
+    (lambda groups: list(letter.letter("a", [], [], groups))[2:], ([LONG],), ["  x.jpg title: [-one-]{+two+}"]),
 ]
 
 

@@ -153,3 +153,14 @@ def test_a_catalogue_of_an_earlier_release(words, folder, called):
     assert (status, printed, len(errors(message))) == (4, "", 1), message
     assert "earlier release (version 5" in message and message.endswith("exifnorm-pictures index FOLDER --catalogue NEW\n")
     assert (folder / "c").read_bytes() == before
+
+
+@pytest.mark.parametrize("words", [("show", "--captions"), ("check",)], ids=" ".join)
+def test_a_database_of_another_program_is_no_picture(words, asked):
+    """Such as the catalogue of an editor in a list of names. What follows it is read."""
+    base = sqlite3.connect("lr.db")
+    base.execute("CREATE TABLE pictures (id)")
+    base.close()
+    printed = "\n".join(asked(*words, "lr.db", "p/a.jpg", status=2))
+    assert "NoPicture" in printed
+    assert "== p/a.jpg" in printed or "\n1 picture" in printed, printed

@@ -21,7 +21,7 @@ from ..picture import Picture
 from ..scan.walk import Unlisted, below
 from .columns import width
 from .exit_codes import SUCCESS, UNKNOWN
-from .names import each_name, is_catalogue, is_list
+from .names import each_name, is_catalogue, is_list, is_ours
 from .not_read import damage_members, lacks_some, no_block, not_found, picture_cut, unread
 from .objects import picture_object, print_object
 from .options import Files, Output, Run
@@ -36,14 +36,14 @@ if TYPE_CHECKING:
 def pictures(files: Files, run: Run) -> Iterator[Picture]:
     """The pictures that are named, and those of folders and catalogues that are named. Other files in these are passed over."""
     if run.whole and any(map(is_catalogue, files.names)):
-        _refuse_whole(files.command, run)  # before anything is printed
+        refuse(files.command, _WHOLE)  # before anything is printed
     for name in each_name(files):
         with opening.held(name):
             yield from _named(files.command, run, name)
 
 
 def _named(command: str, run: Run, name: bytes) -> Iterator[Picture]:
-    if is_catalogue(os.fsdecode(name)):
+    if is_catalogue(os.fsdecode(name)) and (os.path.isdir(name) or is_ours(name)):
         yield from _in_catalogue(command, run, name)
     elif os.path.isdir(name):
         yield from _in_folder(run, name)
@@ -52,16 +52,15 @@ def _named(command: str, run: Run, name: bytes) -> Iterator[Picture]:
         yield _reading(run, name)
 
 
-def _refuse_whole(command: str, run: Run) -> None:
-    if run.whole:
-        refuse(command, "--whole is for pictures and folders: a catalogue has what index --whole read")
+_WHOLE = "--whole is for pictures and folders: a catalogue has what index --whole read"
 
 
 def _in_catalogue(command: str, run: Run, name: bytes) -> Iterator[Picture]:
     """The pictures of a catalogue as they were when it looked at them. Their files aren't needed."""
     from .looking import opened
 
-    _refuse_whole(command, run)
+    if run.whole:
+        refuse(command, _WHOLE)
     with opened(os.fsdecode(name), run) as catalogue:
         yield from of_catalogue(catalogue)
 

@@ -39,7 +39,7 @@ GONE           is gone                               are gone
 NEW            is new                                are new
 READABLE       can be read again                     can be read again
 """
-_WORDS = {Kind[name]: words for name, *words in (re.split(" {2,}", line) for line in _SAID.strip().split("\n"))}
+_WORDS = {Kind[name]: words for name, *words in (re.split(" {2,}", line) for line in _SAID.strip().splitlines())}
 _PLURAL = ("keywords", "instructions", "usage terms")  # which have no article
 
 
@@ -49,11 +49,11 @@ def letter(head: str, news: Sequence[News], end: Sequence[str], groups: Sequence
     many news, the last ones are counted."""
     lines = [*_of_folders(news), *_of_pictures([it for it in news if it.kind not in _OF_FOLDERS])]
     room = LINES - 3 - len(end)
+    if len(lines) > room:
+        lines[room - 1 :] = [f"  .. and {len(lines) - room + 1:,} more lines, which changed --each has"]
     yield cut(head)
     yield from [""] * bool(lines)
-    yield from lines[: room if len(lines) <= room else room - 1]
-    if len(lines) > room:
-        yield f"  .. and {len(lines) - room + 1:,} more lines, which changed --each has"
+    yield from lines
     rows = [line for it in groups[:EDITS] for line in _of_edits(it)]
     rows = rows[: min(max(room - len(lines) - 1, 0), EDITS)]
     yield from [""] * bool(rows)
@@ -64,12 +64,13 @@ def letter(head: str, news: Sequence[News], end: Sequence[str], groups: Sequence
 
 
 def _of_edits(group: Group) -> list[str]:
-    """Pictures that were edited alike, in a line; of one that changed like no other each edit."""
-    edits = [safe(it) for it in group.words()]
-    if group.is_odd:
-        name = _from_behind(whole_path(group.names[0]), COLUMNS // 3)
-        return [cut(f"  {name} {it}") for it in edits]
-    return [cut(f"  {pictures_in_words(group.pictures)}: {'; '.join(edits)}")]
+    """Pictures that were edited alike, in a line; of one that changed like no other each edit, with the
+    text around it if the line has room for that."""
+    if not group.is_odd:
+        return [cut(f"  {pictures_in_words(group.pictures)}: {'; '.join(map(safe, group.words()))}")]
+    name = _from_behind(whole_path(group.names[0]), COLUMNS // 3)
+    around, alone = ([f"  {name} {safe(it)}" for it in group.words(is_whole)] for is_whole in (True, False))
+    return [it if width(it) <= COLUMNS else cut(short) for it, short in zip(around, alone)]
 
 
 _OF_FOLDERS = (Kind.ABSENT, Kind.CLOSED)
@@ -81,7 +82,7 @@ def _of_folders(news: Sequence[News]) -> Iterator[str]:
         if entry.kind in _OF_FOLDERS:
             why = "can't be read." if entry.kind == Kind.CLOSED else "is empty or gone (mounted?)."
             kept = f" {why} Its {pictures_in_words(entry.count)} stay{'s' * (entry.count == 1)} as known."
-            yield "  " + _from_behind(whole_path(entry.names[0].path), COLUMNS - 2 - len(kept)) + kept
+            yield f"  {_from_behind(whole_path(entry.names[0].path), COLUMNS - 2 - len(kept))}{kept}"
 
 
 def _of_pictures(news: Sequence[News]) -> Iterator[str]:

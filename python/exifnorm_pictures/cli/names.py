@@ -85,6 +85,14 @@ def is_catalogue(name: str, decides: bool = False) -> bool:
         return False
 
 
+def is_ours(name: bytes) -> bool:
+    """Whether a file of SQLite is a catalogue, and not one of another program."""
+    from ..catalogue.store import head_is_ours  # which takes long to import
+
+    with reading(name) as file:
+        return head_is_ours(file.read(100))
+
+
 def refuse_folders(*names: str) -> None:
     """Raises `WrongUse` if one of the names that `compare` gets is a folder or a catalogue."""
     for name in names:

@@ -99,7 +99,7 @@ def differences(before: Sequence[Field], after: Sequence[Field], block: str = ""
     ['IFD0:Make']
     """
     first, second = _by_name(before), _by_name(after)
-    differ = [key for key in first.keys() | second.keys() if first.get(key) != second.get(key)]
+    differ = [key for key in {*first, *second} if first.get(key) != second.get(key)]
     directories = [{where for where, _ in side} for side in (first, second)]
     return [
         FieldDifference(*key, tuple(first.get(key, ())), tuple(second.get(key, ())), block, _directory(key[0], directories))

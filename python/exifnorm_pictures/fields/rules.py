@@ -63,7 +63,7 @@ at most .. characters  max maximum up shorter
 a comma                and or & ;
 every picture needs    need require requires required have
 """
-_MEANT = {word: line[:23].rstrip() for line in _OTHER_WORDS.strip().split("\n") for word in line[23:].split()}
+_MEANT = {word: line[:23].rstrip() for line in _OTHER_WORDS.strip().splitlines() for word in line[23:].split()}
 MOST_RULES = 1000
 LONGEST_LINE = 100_000  # characters
 _MOST_MISTAKES = 20  # that are listed

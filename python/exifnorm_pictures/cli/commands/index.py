@@ -6,7 +6,7 @@ import argparse
 import os
 import shlex
 from collections import Counter
-from typing import TYPE_CHECKING, Iterable, Iterator, Sequence
+from typing import Iterable, Iterator, Sequence
 
 from ...catalogue import shards
 from ...catalogue.nights import copy_over
@@ -16,15 +16,13 @@ from ...model.problems import NOT_READABLE
 from ...model.texts import escaped, in_words, kind_of_part, moved_line, pictures_in_words, shown_path
 from ...scan.excluded import Excluded
 from ...scan.index import DAMAGED, OF_LAST_RUN, OF_XMP, REFUSED, IndexOptions, index, lacking, number_of
+from ...scan.parts import Outcome, Plan, indexed, plan, together
 from .. import objects
 from ..exit_codes import SUCCESS, UNKNOWN
 from ..looking import how_of, xmp_files_alone
 from ..names import is_catalogue, named, settle_first, with_first
 from ..options import Files, Output, Run, groups_of
 from ..output import counted, print_line, print_lines, record_lines, say_notes
-
-if TYPE_CHECKING:
-    from ...scan.parts import Outcome, Plan
 
 
 def going_on(run: Run, catalogue: Catalogue) -> Run:
@@ -143,11 +141,9 @@ def _next_steps(catalogue: Catalogue, name: str, excluded: int) -> Iterator[str]
 def _indexed_shards(where: str, names: Sequence[bytes], run: Run, output: Output, old: str | None) -> int:
     """Keeps the pictures of each part of an archive in a catalogue of its own in the folder `where`.
     Returns the status."""
-    from ...scan import parts  # which few need
-
     if old:
         raise WrongUse(f"--keep-old copies one catalogue, and {escaped(where)} is a folder of them: copy it before the run")
-    outcome = parts.together(*(_on_cluster if run.scheduler else _here)(where, names, run, output))
+    outcome = together(*(_on_cluster if run.scheduler else _here)(where, names, run, output))
     say_unused(sorted(outcome.unused))
     say_notes(*not_read_again(outcome.lacking))
     steps = [] if run.quiet else _next_steps_of(where, outcome)
@@ -161,13 +157,11 @@ def _like(planned: Plan, where: str, run: Run) -> Run:
 
 def _here(where: str, names: Sequence[bytes], run: Run, output: Output) -> tuple[Plan, list[Outcome]]:
     """By this process, one part after another."""
-    from ...scan import parts
-
-    planned = parts.plan(where, names, run.exclude)
+    planned = plan(where, names, run.exclude)
     options = printing_options(_like(planned, where, run), output, [])
     outcomes = []
     for shard in planned.shards:
-        outcomes.append(parts.indexed(where, shard, options, run.exclude))
+        outcomes.append(indexed(where, shard, options, run.exclude))
         _print_problem(output, outcomes[-1])
     return planned, outcomes
 

@@ -121,10 +121,10 @@ class Group:
         """In how many pictures each edit was in which standard."""
         return [it.places for it in self.counted]
 
-    def words(self) -> list[str]:
-        """Its edits in words, of one picture with the text around them."""
+    def words(self, is_whole: bool = True) -> list[str]:
+        """Its edits in words, of one picture with the text around them if `is_whole`."""
         edits = self.firsts[0][1] if self.is_odd else self.edits
-        return [line_of(it, self.is_odd) for it in edits]
+        return [line_of(it, self.is_odd and is_whole) for it in edits]
 
     def show_exactly(self, mark: str = "") -> None:
         """Writes characters that don't show as numbers, and a mark behind the names of edits."""
