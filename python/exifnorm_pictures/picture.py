@@ -5,7 +5,8 @@ from __future__ import annotations
 
 import os
 import warnings
-from typing import TYPE_CHECKING, Any, Callable, Iterable, Iterator, Mapping, NamedTuple, Sequence, Type, TypeVar, overload
+from functools import partial
+from typing import TYPE_CHECKING, Any, Callable, Container, Iterable, Iterator, Mapping, NamedTuple, Sequence, Type, TypeVar, overload
 
 from exifnorm._words import documented
 
@@ -197,7 +198,7 @@ class Picture(Mapping[str, "Value"]):
 
     __slots__ = (
         *("name", "path", "type", "problem", "detail", "origin"),
-        *("_read", "_records", "_blocks", "_in_sets", "_names", "_texts", "_record"),
+        *("_read", "_records", "_blocks", "_fields_of", "_names", "_texts", "_record"),
     )
 
     def __init__(
@@ -212,7 +213,8 @@ class Picture(Mapping[str, "Value"]):
         self.type, self.problem, self.detail = read.type, read.problem or "", read.detail
         self._read, self._records, self._texts = read, records, texts
         self._blocks: tuple[Block, ...] | None = None
-        self._in_sets: dict[int, list[Field]] = {}
+        # a block that refers to its picture would keep both until the next collection
+        self._fields_of = partial(_fields_in_sets, records, read.rest, {})
         self._names: list[tuple[BlockRecord, dict[str, list[Field]]]] | None = None  # of each block
         self._record: PictureRecord | None = None
 
@@ -308,13 +310,6 @@ class Picture(Mapping[str, "Value"]):
         """The blocks with their fields."""
         return [(record, self._fields_of(record)) for record in self._records]
 
-    def _fields_of(self, record: BlockRecord) -> list[Field]:
-        """The fields of a block, each text in the character set that it declares, or that the picture shows."""
-        made = id(record.fresh or record)  # pages of a TIFF may share a block of many fields
-        if made not in self._in_sets:
-            self._in_sets[made] = in_found_set(fields_of(record), map(fields_of, self._records), self._read.rest)
-        return self._in_sets[made]
-
     def _lists(self) -> Iterable[list[Field]]:
         """The fields of the blocks, once of those that have the same: pages of a TIFF may share a block of many fields."""
         return {id(fields): fields for _, fields in self._of_blocks()}.values()
@@ -322,7 +317,7 @@ class Picture(Mapping[str, "Value"]):
     @property
     def names(self) -> tuple[str, ...]:
         """The names of all fields, each once, in the order of the file."""
-        return tuple(dict.fromkeys([field.name for fields in self._lists() for field in fields]))
+        return tuple(dict.fromkeys(field.name for fields in self._lists() for field in fields))
 
     def _own(self, name: str) -> list[tuple[BlockRecord, list[Field]]]:
         """The fields with a name of this program, of each block that has some."""
@@ -496,6 +491,14 @@ class Picture(Mapping[str, "Value"]):
 
     def __repr__(self) -> str:
         return f"Picture(name={self.name!r}, type={self.type!r}, not_read={self.not_read!r})"
+
+
+def _fields_in_sets(records: Sequence[BlockRecord], rest: Container[str], made: dict[int, list[Field]], record: BlockRecord) -> list[Field]:
+    """The fields of a block, each text in the character set that it declares, or that these blocks show."""
+    key = id(record.fresh or record)  # pages of a TIFF may share a block of many fields
+    if key not in made:
+        made[key] = in_found_set(fields_of(record), map(fields_of, records), rest)
+    return made[key]
 
 
 def _value_of(fields: Sequence[Field]) -> Value:

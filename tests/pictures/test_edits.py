@@ -285,7 +285,7 @@ def test_edits_that_differ_never_look_alike(texts):
     for number, (before, after) in enumerate(texts):
         kinds.add(b"%d" % number, differences(caption("".join(before)), caption("".join(after))))
     groups = kinds.groups()
-    shown = [look(safe(it.words())) for it in groups]
+    shown = [look(safe("\n".join(it.words()))) for it in groups]
     assert len(set(shown)) == len(groups)
 
 

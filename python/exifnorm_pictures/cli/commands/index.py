@@ -150,15 +150,10 @@ def _indexed_shards(where: str, names: Sequence[bytes], run: Run, output: Output
     return _print_end(output, outcome.counts, outcome.damaged, [], steps)
 
 
-def _like(planned: Plan, where: str, run: Run) -> Run:
-    """Looks at all parts as at those before. Raises `WrongUse`."""
-    return _going_on(run, where, planned.has_sidecars, planned.has_digests, planned.is_empty)
-
-
 def _here(where: str, names: Sequence[bytes], run: Run, output: Output) -> tuple[Plan, list[Outcome]]:
     """By this process, one part after another."""
     planned = plan(where, names, run.exclude)
-    options = printing_options(_like(planned, where, run), output, [])
+    options = printing_options(_going_on(run, where, planned.has_sidecars, planned.has_digests, planned.is_empty), output, [])
     outcomes = []
     for shard in planned.shards:
         outcomes.append(indexed(where, shard, options, run.exclude))
@@ -174,7 +169,8 @@ def _on_cluster(where: str, names: Sequence[bytes], run: Run, output: Output) ->
     cluster = Parts(run.scheduler, where, run.again, how_of(run, ""), run.exclude)
     planned = cluster.planned(names)
     outcomes = []
-    for shard, outcome in cluster.outcomes(planned, how_of(_like(planned, where, run), "")):
+    run = _going_on(run, where, planned.has_sidecars, planned.has_digests, planned.is_empty)
+    for shard, outcome in cluster.outcomes(planned, how_of(run, "")):
         outcomes.append(outcome)
         _print_problem(output, outcome)
         if not (output.json or run.quiet or outcome.problem):
