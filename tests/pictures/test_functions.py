@@ -198,8 +198,8 @@ OCTETS_OF_BOTH = hashlib.sha256(b"Exif: o\nsecond Exif: p").hexdigest()
 LEAST, GREATEST = -(1 << 63), (1 << 63) - 1
 OWN = PictureRecord.of(b"/a", b"/", extractor="own")
 # a group of one picture
-ODD = SimpleNamespace(is_odd=True, names=[b"x.jpg"], words=lambda is_whole: ["title: [-one-]{+two+}"])
-LONG = SimpleNamespace(is_odd=True, names=[b"x.jpg"], words=lambda is_whole: [f"title: {'a' * 60 * is_whole}[-one-]{{+two+}}"])
+ODD = SimpleNamespace(is_odd=True, names=[b"x.jpg"], words=lambda is_whole=True: ["title: [-one-]{+two+}"])
+LONG = SimpleNamespace(is_odd=True, names=[b"x.jpg"], words=lambda is_whole=True: [f"title: {'a' * 60 * is_whole}[-one-]{{+two+}}"])
 CLOSED = PictureRecord.of(b"/a\n/b", b"", problem="Unreadable", detail="permission denied")
 NOT_MADE = (block_record("failed", "OutOfMemory", None), block_record("too long", "NormalTooLong", None))
 IN_ORDER = "main 010f, exif 9003, gps 0001, thumb 0112, thumb ffff, thumb jpeg, thumb strip, iptc 2:5, iptc 2:25".split(", ")

@@ -11,6 +11,7 @@ from functools import partial
 from itertools import chain
 from typing import Any, Iterator, Sequence
 
+from ..fields.character_sets import in_found_set
 from ..fields.choosing import Choice, ambiguous
 from ..fields.field import Field
 from ..fields.forms import Forms, forms_of, number_of
@@ -24,8 +25,7 @@ from ..fields.structures import has_members, members_of
 from ..fields.typed import typed
 from ..model.found import NAMES
 from ..model.records import PictureRecord
-from .kept_texts import Report, fill, make_table, say_nothing, show_as_texts
-from .kept_texts import kept_text
+from .kept_texts import Report, fill, kept_text, make_table, say_nothing, show_as_texts
 from .store import Catalogue, put_text
 
 _FIELDS = "temp.field_texts"
@@ -77,11 +77,13 @@ def ambiguous_in(places: Places) -> dict[str, list[str]]:
 def _rows(choices: Sequence[tuple[str, Choice]], seen: Places, catalogue: Catalogue, number: int) -> Iterator[tuple[object, ...]]:
     """The texts of a picture as rows. Of fields with the same texts one counts; a field may have a text twice, as 16 bits for each colour."""
     blocks = catalogue.blocks_with_fields(PictureRecord(number))
+    lists = {id(fields): fields for _, fields in blocks}  # pages of a TIFF may share one
+    in_sets = {key: in_found_set(fields, lists.values()) for key, fields in lists.items()}
     for word, choice in choices:
         values: dict[tuple[str, ...], list[Forms]] = {}
         for block, fields in blocks:
             name = "" if block.name == NAMES[block.kind] else block.name
-            for field in _chosen(choice, fields, name):
+            for field in _chosen(choice, in_sets[id(fields)], name):
                 texts = tuple(texts_of_field(field, fields))
                 if texts not in values:
                     values[texts] = forms_of(field, texts)

@@ -69,7 +69,8 @@ def _of_edits(group: Group) -> list[str]:
     if not group.is_odd:
         return [cut(f"  {pictures_in_words(group.pictures)}: {'; '.join(map(safe, group.words()))}")]
     name = _from_behind(whole_path(group.names[0]), COLUMNS // 3)
-    around, alone = ([f"  {name} {safe(it)}" for it in group.words(is_whole)] for is_whole in (True, False))
+    around = [f"  {name} {safe(it)}" for it in group.words()]
+    alone = [f"  {name} {safe(it)}" for it in group.words(is_whole=False)]
     return [it if width(it) <= COLUMNS else cut(short) for it, short in zip(around, alone)]
 
 

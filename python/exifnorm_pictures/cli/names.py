@@ -90,7 +90,8 @@ def is_ours(name: bytes) -> bool:
     from ..catalogue.store import head_is_ours  # which takes long to import
 
     with reading(name) as file:
-        return head_is_ours(file.read(100))
+        head = file.read(100)
+    return head_is_ours(head)
 
 
 def refuse_folders(*names: str) -> None:

@@ -32,7 +32,7 @@ _TAGS = {"EXIF": EXIF, "IPTC": IPTC, "XMP": XMP}
 _SEVERAL = ("CR3", "CRX", "CRM")  # Canon's, by ExifTool's names
 
 # Files in the structure of TIFF, of which ExifTool hands over no Exif block.
-_TIFF_TYPES = frozenset(["TIFF", *(ending.upper() for ending in (*raw_files.READ, *raw_files.LEFT))])
+_TIFF_TYPES = frozenset(it.upper() for it in ("tiff", *raw_files.READ, *raw_files.LEFT))
 
 # Bytes come in base64 after the word base64:, texts as they are. The filter marks a text that begins with that word by
 # itself, so that a picture can't make a text look like other bytes. -m: continue after minor errors.

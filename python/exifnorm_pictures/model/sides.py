@@ -49,7 +49,7 @@ def side_of(ours: Sequence[BlockRecord]) -> Side:
     if not ours:
         return NO_BLOCK
     octets = of_all(ours, [it.octets for it in ours])
-    if all([it.status == Status.ACCEPTED for it in ours]):
+    if all(it.status == Status.ACCEPTED for it in ours):
         return Side(Status.ACCEPTED, of_all(ours, [it.digest for it in ours]), octets)
     status = Status.UNREADABLE if ours[0].kind == XMP else Status.REFUSED
     return Side(status, "", octets, of_all(ours, [it.meaning for it in ours]))

@@ -1,4 +1,4 @@
--- version 10
+-- version 11
 CREATE TABLE blocks (
     picture INTEGER NOT NULL REFERENCES pictures(id) ON DELETE CASCADE,
     number INTEGER NOT NULL,        -- the order in the file

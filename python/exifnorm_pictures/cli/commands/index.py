@@ -153,7 +153,8 @@ def _indexed_shards(where: str, names: Sequence[bytes], run: Run, output: Output
 def _here(where: str, names: Sequence[bytes], run: Run, output: Output) -> tuple[Plan, list[Outcome]]:
     """By this process, one part after another."""
     planned = plan(where, names, run.exclude)
-    options = printing_options(_going_on(run, where, planned.has_sidecars, planned.has_digests, planned.is_empty), output, [])
+    run = _going_on(run, where, planned.has_sidecars, planned.has_digests, planned.is_empty)
+    options = printing_options(run, output, [])
     outcomes = []
     for shard in planned.shards:
         outcomes.append(indexed(where, shard, options, run.exclude))
