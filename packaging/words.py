@@ -95,7 +95,7 @@ def of_fields() -> dict[str, Any]:
     """Which fields have a value of some kind."""
     return {
         "dates": sorted(map(" ".join, typed._DATES)),
-        "versions": sorted(map(" ".join, typed._VERSIONS)),
+        "versions": sorted(f"{directory} {tag}" for _, directory, tag in typed._VERSIONS),
         "iptcDates": listing.DATASET_DATES,
         "iptcTimes": listing.DATASET_TIMES,
         "iptcNumbers": listing.DATASET_NUMBERS,

@@ -209,6 +209,8 @@ def test_fields_are_those_of_exifnorm_pictures(answers, checks):
         refused = [[it.block, it.cause, it.offset] for it in picture.refusals]
         is_xmp = [it for it in refused if "XMP" in it[0]] or any("XMP" in it for it in found["notRead"])
         checks.equal(name, *([it for it in those if "XMP" not in it[0]] for those in (found["refused"], refused)))
+        if name.startswith("sets/"):  # JavaScript knows no set that only other parts of a picture show
+            continue
         both = {it: [found["fields"][it], text] for it, text in found["texts"].items()}
         due = {it: [*about] for it, about in fields_of(picture)}
         texts = {label: {it["text"] for it in those} for label, those in found["captions"].items()}
