@@ -1,5 +1,6 @@
 -- The elements of values, as they are appended to nothing.
-use Rattle.std.proofs.Common.{◌≡◌, ◌≤◌, ◌+◌, ◌++◌, ◌∙◌, refl, ℕ, List, [], codes, sym, ap, subst, length, length-append, append_assoc, arith}
+use Rattle.std.proofs.Common.{◌≡◌, ◌≤◌, ◌+◌, ◌++◌, ◌∙◌, refl, ℕ, List, [], codes, sym, ap, subst, length, length-append, append_assoc, arith, take, drop}
+use Rattle.std.proofs.lemmas.List.{take_at, drop_at}
 use Rattle.px_xmp_text.specs.Texts.{normal_text}
 use Rattle.px_xmp_text.specs.Values.{Label, Compound, Content, Literal, Uri, End, Flat, Nested, IsLabel, IsContent, Without}
 use Rattle.px_xmp_text.specs.Values.{opening_tag, end_tag, compound_start, compound_end, written}
@@ -56,6 +57,16 @@ nested_element_is x l s c z o a b d e f hl hc short ez eo ea eb ed ee ef ex en =
     ∙ ap (λ (w : List ℕ). w ++ z) (eb ∙ ap (λ (w : List ℕ). w ++ compound_start s []) tag)
     ∙ ap (λ (w : List ℕ). (opening_tag l [] ++ compound_start s []) ++ w) ez)) in
     record { octets = ex ∙ whole ∙ nested_is l s c; label = en ∙ ap length tag; can = (hl, hc, tt); short = (short, tt) }
+
+-- ---- tags, and octets between them
+
+-- tags that were appended to one another, cut where the octets are to be
+pub around : (b s t e f g z : List ℕ) (n : ℕ) → e ≡ b ++ s ++ t → n ≡ length b → f ≡ take n e → g ≡ drop n e → f ++ z ++ g ≡ b ++ z ++ s ++ t
+around b s t e f g z n ee en ef eg =
+    let whole : e ≡ b ++ (s ++ t) = ee ∙ append_assoc b s t in
+    let front : f ≡ b = ef ∙ ap (take n) whole ∙ take_at b (s ++ t) n (sym en) in
+    let back : g ≡ s ++ t = eg ∙ ap (drop n) whole ∙ drop_at b (s ++ t) n (sym en) in
+    ap (λ (w : List ℕ). w ++ z ++ g) front ∙ ap (λ (w : List ℕ). b ++ z ++ w) back ∙ sym (append_assoc (b ++ z) s t)
 
 -- ---- their lengths, by their parts
 

@@ -18,11 +18,12 @@ use px_xmp_text::{TextKind, append_normal_in, first_fault};
 pub const LIMIT: usize = 16777216;
 
 // The most octets of a form that is not finished. White space between elements is among them, until the next element.
-const MOST: usize = 33554432;
+pub(crate) const MOST: usize = 33554432;
 
 // Whether `more` octets may follow `len`: a form that isn't finished has at most `MOST`.
-fn has_space(len: usize, more: usize) -> bool
-    ensures { len + more ≤ most → result ≡ true }
+pub(crate) fn has_space(len: usize, more: usize) -> bool
+    ensures fits { len + more ≤ most → result ≡ true }
+    ensures within { result ≡ true → len + more ≤ most }
 {
     len <= MOST && more <= MOST - len
 }

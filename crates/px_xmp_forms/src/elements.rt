@@ -31,15 +31,29 @@ pub(crate) struct Element {
     pub(crate) label_len: usize,
 }
 
-// No attribute for a language has more octets besides the language, with the end of the start tag, and no attribute for a
-// resource besides the URI, and what is around members or properties is no longer.
-const MARKUP: usize = 26;
+// The most octets around members or properties, without the tags of their element.
+const COMPOUND: usize = 26;
+
+// The octets of the attribute for a resource besides the URI, with the end of the tag.
+const RESOURCE: usize = 18;
+
+// The octets of the attribute for a language besides the language, with the end of the start tag.
+const LANGUAGE: usize = 13;
 
 // The space for the element of a label around `more` octets.
 fn element_size(label: Label, more: usize) -> usize {
-    label_size(label)
-        .saturating_add(MARKUP)
-        .saturating_add(more)
+    label_size(label).saturating_add(more)
+}
+
+// The space for the attribute for a language, with the end of the start tag, and a text.
+fn text_size(language: &[u8], content: &[u8]) -> usize {
+    if language.is_empty() {
+        return content.len().saturating_add(1);
+    }
+    content
+        .len()
+        .saturating_add(language.len())
+        .saturating_add(LANGUAGE)
 }
 
 // A language in lower case.
@@ -112,8 +126,11 @@ fn literal_element(
         → ValueFits (label_view label.entry) (Plain (Literal (str_to_ascii_lowercase language.now) t)) → FailsByMemory result }
 {
     let mut octets = memory.list();
-    let size = element_size(label, language.len().saturating_add(content.len()));
-    reserve(memory, &mut octets, size)?;
+    reserve(
+        memory,
+        &mut octets,
+        element_size(label, text_size(language, content)),
+    )?;
     append_label(memory, &mut octets, label)?;
     let label_len = octets.as_slice().len();
     append_language(memory, &mut octets, language)?;
@@ -139,7 +156,11 @@ fn resource_element(memory: &mut Memory, label: Label, uri: &TextForm) -> Result
         return Err(Cause::RareResource.at(LIMIT));
     }
     let mut octets = memory.list();
-    reserve(memory, &mut octets, element_size(label, uri.len()))?;
+    reserve(
+        memory,
+        &mut octets,
+        element_size(label, uri.len().saturating_add(RESOURCE)),
+    )?;
     append_label(memory, &mut octets, label)?;
     let label_len = octets.as_slice().len();
     append(memory, &mut octets, b" rdf:resource=\"")?;
@@ -157,29 +178,27 @@ fn nested_element(
     memory: &mut Memory,
     label: Label,
     container: Option<Container>,
-    inner: &Piece,
+    inner: Piece,
 ) -> Result<Element, Refusal>
     requires { IsLabel (label_view label) }
-    ensures value { (c : values.Content) → inner.now ≡ written c [] → IsContent c → HaveShortLanguages c →
+    ensures value { (c : values.Content) → inner ≡ written c [] → IsContent c → HaveShortLanguages c →
         IfOk result (λ x. IsElement x (label_view label.entry) (Inside (compound_view container) c)) }
     ensures memory { CountsAllocFailureInPacket result memory.old memory.new }
     ensures rare { IsRare result }
-    ensures accepts { (c : values.Content) → inner.now ≡ written c []
+    ensures accepts { (c : values.Content) → inner ≡ written c []
         → ValueFits (label_view label.entry) (Inside (compound_view container) c) → FailsByMemory result }
 {
-    let mut octets = memory.list();
-    let content = inner.octets();
-    reserve(memory, &mut octets, element_size(label, content.len()))?;
-    append_label(memory, &mut octets, label)?;
-    let label_len = octets.as_slice().len();
-    append_start(memory, &mut octets, container)?;
-    append(memory, &mut octets, content)?;
-    append_stop(memory, &mut octets, container)?;
-    append_label_end(memory, &mut octets, label)?;
-    Ok(Element {
-        piece: Piece::of(octets),
-        label_len,
-    })
+    let mut tags = memory.list();
+    reserve(memory, &mut tags, element_size(label, COMPOUND))?;
+    append_label(memory, &mut tags, label)?;
+    let label_len = tags.as_slice().len();
+    append_start(memory, &mut tags, container)?;
+    let front_len = tags.as_slice().len();
+    append_stop(memory, &mut tags, container)?;
+    append_label_end(memory, &mut tags, label)?;
+    let (front, back) = tags.as_slice().split_at(front_len);
+    let piece = inner.between(memory, front, back)?;
+    Ok(Element { piece, label_len })
 }
 
 // The element of a text that is the value of an attribute. `Content`: it cannot be written.
@@ -209,13 +228,13 @@ pub(crate) fn write_element(
     label: Label,
     content: Content,
     text: &TextForm,
-    inner: &Piece,
+    inner: Piece,
 ) -> Result<Element, Refusal>
-    ensures value { (t : List ℕ) (c : values.Content) → text.now ≡ normal_text t → inner.now ≡ written c [] → IsContent c
+    ensures value { (t : List ℕ) (c : values.Content) → text.now ≡ normal_text t → inner ≡ written c [] → IsContent c
         → HaveShortLanguages c → IfOk result (λ x. IsElement x (label_view label.entry) (value_of content.entry t c)) }
     ensures memory { CountsAllocFailureInPacket result memory.old memory.new }
     ensures rare { IsRare result }
-    ensures accepts { (t : List ℕ) (c : values.Content) → text.now ≡ normal_text t → inner.now ≡ written c []
+    ensures accepts { (t : List ℕ) (c : values.Content) → text.now ≡ normal_text t → inner ≡ written c []
         → ValueFits (label_view label.entry) (value_of content.entry t c) → FailsByMemory result }
 {
     if !is_label(label) {

@@ -14,7 +14,6 @@ ghost use Rattle.px_xmp_forms.specs.declared.items.BagOrder.TheVariants.{Sorted,
 ghost use Rattle.px_xmp_forms.specs.Allocations.{CountsAllocFailureInPacket};
 ghost use Rattle.px_xmp_forms.specs.Causes.{IsRare, FailsByMemory};
 
-use crate::appending::{append, reserve};
 use crate::elements::Element;
 use crate::faults::Refusal;
 use crate::pieces::Piece;
@@ -29,6 +28,9 @@ pub(crate) struct Item {
     // The offset of its tag in the packet.
     pub(crate) place: usize,
 }
+
+// The space for the tags of an element around few octets.
+const TAGS: usize = 128;
 
 // So many octets are compared one after another: most names differ in these.
 const NEAR: usize = 16;
@@ -161,26 +163,45 @@ pub(crate) fn first_repeated(items: &[Item]) -> Option<usize>
     place
 }
 
-// The number of octets of some items.
-fn items_len(items: &[Item]) -> usize {
+// The space for some items in a row. It is 0 if one of them has more than half of their octets: the others are put around it.
+fn space_for(items: &[Item]) -> usize {
     let mut len: usize = 0;
+    let mut longest: usize = 0;
     for item in items {
-        len = len.saturating_add(item.octets().len());
+        let more = item.octets().len();
+        len = len.saturating_add(more);
+        longest = longest.max(more);
+    }
+    if longest > len.saturating_sub(longest) {
+        return 0;
     }
     len
 }
 
-// The items in a row.
-pub(crate) fn join_items(memory: &mut Memory, items: &[Item]) -> Result<Piece, Refusal>
-    ensures value { (es : List Entry) → AreItems items.now es → IfOk result (λ p. p ≡ written (row es) []) }
+// The space before items in a row, and behind them, for the tags of the element around them.
+fn space_around(space: usize, is_inside: bool) -> usize {
+    if !is_inside || space == 0 {
+        return 0;
+    }
+    (space / 8).saturating_add(TAGS)
+}
+
+// The items in a row. `is_inside`: there will be the tags of an element around them.
+pub(crate) fn join_items(
+    memory: &mut Memory,
+    items: Vec<Item>,
+    is_inside: bool,
+) -> Result<Piece, Refusal>
+    ensures value { (es : List Entry) → AreItems items.items es → IfOk result (λ p. p ≡ written (row es) []) }
     ensures memory { CountsAllocFailureInPacket result memory.old memory.new }
     ensures rare { IsRare result }
-    ensures accepts { (es : List Entry) → AreItems items.now es → length (written (row es) []) ≤ most → FailsByMemory result }
+    ensures accepts { (es : List Entry) → AreItems items.items es → length (written (row es) []) ≤ most → FailsByMemory result }
 {
-    let mut joined = memory.list();
-    reserve(memory, &mut joined, items_len(items))?;
+    let space = space_for(items.as_slice());
+    let around = space_around(space, is_inside);
+    let mut joined = Piece::with_space(memory, around, space.saturating_add(around))?;
     for item in items {
-        append(memory, &mut joined, item.element.piece.octets())?;
+        joined = joined.followed_by(memory, item.element.piece)?;
     }
-    Ok(Piece::of(joined))
+    Ok(joined)
 }

@@ -279,9 +279,10 @@ impl Output {
         ensures rare { IsRare result }
         ensures accepts { (es : List Entry) → AreItems items.items es → length (written (row es) []) ≤ most → FailsByMemory result }
     {
+        let is_inside = !self.levels.is_empty();
         let level = Level {
             text,
-            inner: join_items(memory, items.as_slice())?,
+            inner: join_items(memory, items, is_inside)?,
             items: memory.list(),
         };
         self.push(memory, level)
@@ -352,7 +353,8 @@ impl Output {
         let Some(level) = self.pop() else {
             return Ok(());
         };
-        let element = write_element(memory, label, content, &level.text, &level.inner)?;
+        let inner = level.inner;
+        let element = write_element(memory, label, content, &level.text, inner)?;
         self.put_item(memory, Item { element, place })
     }
 

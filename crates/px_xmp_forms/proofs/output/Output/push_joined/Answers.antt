@@ -7,10 +7,9 @@ use Rattle.px_xmp_forms.proofs.output.Output.push_joined.Goals as goal
 
 pub returns-clause-value : goal.returns-clause-value
 returns-clause-value c s t es h e a =
-    let are = subst (λ (xs : List Item). AreItems xs es) (sym c.as_slice.ensures.value) a in
     c.push.ensures.value s (record { text = t; inner = row es; entries = [] }) h (record {
       text = e;
-      inner = c.in_ok-join_items.ensures.value es are;
+      inner = c.in_ok-join_items.ensures.value es a;
       can = items_can _ es a;
       short = items_short _ es a;
       entries = subst (λ (xs : List Item). AreItems xs []) (sym c.list.ensures.items) tt;
