@@ -48,7 +48,7 @@ LINKED = ["-mwasm64", "--no-entry", "--gc-sections", "--stack-first", "--fatal-w
 NAMES = ["exifnorm.wasm", "exifnorm64.wasm"]
 HOST = ["exifnorm_malloc", "exifnorm_free", "exifnorm_allocations"]
 FEATURES = [f"--enable-{name}" for name in ("memory64", "bulk-memory", "sign-ext", "mutable-globals", "nontrapping-float-to-int")]
-LOWER = [*FEATURES, "--memory64-lowering", "-O2", "--strip-debug", "--strip-producers"]
+LOWER = [*FEATURES, "--memory64-lowering", "-O3", "--strip-debug", "--strip-producers"]
 TABLE, ELEMENTS = 4, 9  # the numbers of sections
 
 
