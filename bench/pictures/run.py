@@ -1,16 +1,14 @@
 #!/usr/bin/env python3
 """Times exifnorm-pictures at an archive's scale beside ExifTool and exiv2's library, in one interleaved run, and prints a table.
 
-  bench/pictures/run.py LIBRARY [--pictures N] [--folder FOLDER] [--rows N] [--compared N] [--counted N] [--rounds N]
+  bench/pictures/run.py LIBRARY [--pictures N] [--folder FOLDER] [--counted N] [--rounds N]
 
 LIBRARY is a folder such as out/lib. The pictures are small JPEG files with Exif, IPTC and XMP, made here from a few bytes, or those of a
 folder; those of another format are PSD files by ImageMagick's convert. exiv2's library is left out where it or its header (Debian:
-libexiv2-dev) isn't installed. A time is the least of all rounds. Catalogues with many rows are made by the package itself, without
-pictures. Memory is the peak of one process, as the system counts it.
+libexiv2-dev) isn't installed. A time is the least of all rounds.
 """
 
 import argparse
-import hashlib
 import os
 import re
 import shutil
@@ -20,21 +18,14 @@ import tempfile
 import time
 from dataclasses import dataclass
 from pathlib import Path
-from typing import Callable, Dict, Iterator, List, Optional, Sequence, Tuple
+from typing import Dict, Iterator, List, Sequence, Tuple
 
 TOP = Path(__file__).resolve().parent.parent.parent
 sys.path[:0] = [str(TOP / "tests" / "pictures"), str(TOP / "tests" / "blocks"), str(TOP / "python")]
 sys.dont_write_bytecode = True
 
 import made_files as made
-from exifnorm_pictures.catalogue.store import Catalogue
-from exifnorm_pictures.fields.field import Field
-from exifnorm_pictures.fields.packing import packed
-from exifnorm_pictures.model.found import EXIF, IPTC, NAMES, XMP
-from exifnorm_pictures.model.records import BlockRecord, PictureRecord, Stamp
 
-ROOT = b"/archive"
-BATCH = 1000  # rows at once: few, because the system counts the memory of this process into that of a command that it starts
 EXIFTOOL = ("-config", "", "-q", "-q", "-r", "-b", "-Exif")
 ROW = Tuple[str, str, str]  # what was measured, the result, the target
 
@@ -83,27 +74,6 @@ def make_others(folder: str, count: int) -> bool:
     return True
 
 
-def row(number: int, says: int, path: bytes, fields: bool) -> PictureRecord:
-    """A picture as the catalogue keeps it, whose Exif, IPTC and XMP blocks contain a number."""
-    kept = packed([Field("main", "010f", "ASCII", 4, b"%d\0" % says)]).octets if fields else None
-    blocks = []
-    for kind in (EXIF, IPTC, XMP):
-        digest = hashlib.sha256(f"{kind} {says}".encode()).hexdigest()
-        blocks.append(BlockRecord(kind, NAMES[kind], "APP1 at 2", "own", "accepted", digest, None, None, 100, digest, fields=kept))
-    return PictureRecord.of(ROOT + path, ROOT, Stamp(1000 + says, number, number, number), "JPEG", "own", blocks=tuple(blocks))
-
-
-def make_catalogue(name: str, count: int, says: Callable[[int], int], path: Callable[[int], bytes], fields: bool = True) -> str:
-    """A catalogue with this many pictures; its name."""
-    with Catalogue(name, make=True) as catalogue:
-        catalogue.base.execute("PRAGMA synchronous = OFF")
-        run = catalogue.begin_run("2000-01-01T00:00:00Z")
-        for at in range(0, count, BATCH):
-            catalogue.put(run, [row(it, says(it), path(it), fields) for it in range(at, min(at + BATCH, count))])
-        catalogue.end_run(run, "2000-01-01T00:00:00Z")
-    return name
-
-
 # How it is measured
 
 
@@ -113,11 +83,6 @@ class Cost:
 
     seconds: float
     processor: float  # seconds of processor time, with the processes that it started and waited for
-    megabytes: float
-
-    def all(self) -> Tuple[float, float, float]:
-        """The numbers in their order."""
-        return self.seconds, self.processor, self.megabytes
 
 
 def cost(words: Sequence[str], statuses: Sequence[int] = (0,)) -> Cost:
@@ -128,7 +93,7 @@ def cost(words: Sequence[str], statuses: Sequence[int] = (0,)) -> Cost:
     started.returncode = os.waitstatus_to_exitcode(status)
     if started.returncode not in statuses:
         raise SystemExit(f"{' '.join(words)}: status {started.returncode}")
-    return Cost(time.perf_counter() - began, used.ru_utime + used.ru_stime, used.ru_maxrss / 1024)
+    return Cost(time.perf_counter() - began, used.ru_utime + used.ru_stime)
 
 
 # Runs a command, and writes to standard error which part of the processor time the first process had.
@@ -198,7 +163,7 @@ class Timed:
 
     def _time(self, name: str, words: Sequence[str], statuses: Sequence[int] = (0,)) -> None:
         now, least = cost(words, statuses), self.least.get(name)
-        self.least[name] = Cost(*map(min, now.all(), least.all())) if least else now
+        self.least[name] = Cost(min(now.seconds, least.seconds), min(now.processor, least.processor)) if least else now
 
     def _further(self, every: str, first: str) -> float:
         """The milliseconds of processor time for a further picture: what a command takes for all, without what it takes for the first one."""
@@ -229,39 +194,6 @@ def ratio(least: Dict[str, Cost], name: str, other: str) -> str:
         f"{mine.seconds / its.seconds:.2f} ({mine.seconds:.2f} s over {its.seconds:.2f} s); processor time:"
         f" {mine.processor / its.processor:.3f} ({mine.processor:.2f} s over {its.processor:.2f} s)"
     )
-
-
-def great(folder: str, rows: int, compared: int) -> Iterator[ROW]:
-    """Memory and size, on catalogues with many rows."""
-    if rows:
-        many = make_catalogue(os.path.join(folder, "many"), rows, lambda it: it // 2, plain, fields=False)
-        yield f"memory of `same`, {rows:,} pictures in pairs", megabytes(cost(pictures("same", many))), "100 MB"
-        os.unlink(many)
-    if compared:
-        first = make_catalogue(os.path.join(folder, "first"), compared, lambda it: it // 2, plain)
-        half = make_catalogue(os.path.join(folder, "half"), compared, lambda it: it // 2 + compared * (it % 2), plain)
-        moved = make_catalogue(os.path.join(folder, "moved"), compared, lambda it: it // 2, lambda it: b"/moved" + plain(it))
-        name = f"memory of `changed`, {compared:,} pictures,"
-        yield f"{name} nothing changed", megabytes(cost(pictures("changed", first, first))), "100 MB"
-        yield f"{name} of which half say something else", megabytes(cost(pictures("changed", first, half), [1])), "100 MB"
-        yield f"{name} all moved", megabytes(cost(pictures("changed", first, moved), [1])), "100 MB"
-        page = os.path.join(folder, "page.html")
-        cost(pictures("report", first, "--html", page))
-        yield f"page of `report`, {compared:,} pictures", paged(page), ""
-        spent = cost(pictures("report", half, "--since", first, "--html", page))
-        yield f"memory of `report --since`, {compared:,} pictures", megabytes(spent), ""
-        yield "its page", paged(page), ""
-
-
-def paged(page: str) -> str:
-    """The size of a page, and where Chromium is installed, in which time it opens."""
-    opened = opening(page)
-    return f"{os.path.getsize(page) / 1000:.0f} kB" + (f", opens in {opened:.1f} s" if opened is not None else "")
-
-
-def plain(number: int) -> bytes:
-    """The path of a picture below the folder."""
-    return b"/%04d/%07d.jpg" % (number // 1000, number)
 
 
 # Runs `index`, whose further processes end at once: each has counted what the first one had when it forked.
@@ -320,27 +252,12 @@ def counted(folder: str, count: int) -> Iterator[ROW]:
         yield f"instructions of `{name}`", f"{each / 1e3:,.0f} thousand for a picture, {start / 1e6:,.0f} million for the start", ""
 
 
-def megabytes(most: Cost) -> str:
-    return f"{most.megabytes:.0f} MB ({most.processor:.0f} s of processor time)"
-
-
-def opening(page: str) -> Optional[float]:
-    """How long Chromium takes for a page beyond its time for an empty one."""
-    if not shutil.which("chromium"):
-        return None
-    words = ["chromium", "--headless", "--no-sandbox", "--disable-gpu", "--dump-dom"]
-    least = [min(cost([*words, it]).seconds for _ in range(3)) for it in ("about:blank", "file://" + page)]
-    return max(least[1] - least[0], 0.0)
-
-
 def main() -> None:
     """Measures and prints."""
     words = argparse.ArgumentParser(description=__doc__, formatter_class=argparse.RawDescriptionHelpFormatter)
     words.add_argument("library")
     words.add_argument("--pictures", type=int, default=5000, help="JPEG files")
     words.add_argument("--folder", default="", help="a folder with JPEG files to be timed in place of made ones")
-    words.add_argument("--rows", type=int, default=1000000, help="rows of the catalogue for `same`; 0 leaves it out")
-    words.add_argument("--compared", type=int, default=100000, help="pictures for `changed` and `report`; 0 leaves them out")
     words.add_argument("--counted", type=int, default=0, help="JPEG files whose instructions Valgrind counts; 0 leaves it out")
     words.add_argument("--rounds", type=int, default=3)
     asked = words.parse_args()
@@ -359,7 +276,6 @@ def main() -> None:
             cost(pictures("--version"))  # which compiles the modules
             show(counted(folder, asked.counted))
             show(by_four(folder, asked.counted))
-        show(great(folder, asked.rows, asked.compared))
 
 
 def show(rows: Iterator[ROW]) -> None:
