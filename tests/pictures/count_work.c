@@ -1,26 +1,28 @@
 /* Loaded in front of Python: counts its calls, and the memory that is asked for and in use. With PYTHONMALLOC=malloc all memory of Python
  * comes from here, and so does that of SQLite, zlib, expat and the library. */
 #include <malloc.h>
+#include <stdatomic.h>
 #include <stddef.h>
 
 extern void *__libc_malloc(size_t), *__libc_calloc(size_t, size_t), *__libc_realloc(void *, size_t);
 extern void __libc_free(void *);
 
-/* Calls of Python and from Python; bytes that were asked for, all requests together; bytes in use, and the most of them. */
-unsigned long long work_calls, work_asked;
-long long work_used, work_peak;
+/* Calls of Python and from Python; bytes that were asked for, all requests together; bytes in use, and the most of them. SQLite and digests
+ * work without Python's lock, so several threads count at once. */
+atomic_ullong work_calls, work_asked;
+atomic_llong work_used, work_peak;
 
 static void *given(void *memory) {
-    if (memory)
-        work_used += (long long)malloc_usable_size(memory);
-    if (work_used > work_peak)
-        work_peak = work_used;
+    long long size = memory ? (long long)malloc_usable_size(memory) : 0;
+    long long used = atomic_fetch_add(&work_used, size) + size, peak = atomic_load(&work_peak);
+    while (used > peak && !atomic_compare_exchange_weak(&work_peak, &peak, used))
+        ;
     return memory;
 }
 
 static void taken(void *memory) {
     if (memory)
-        work_used -= (long long)malloc_usable_size(memory);
+        atomic_fetch_sub(&work_used, (long long)malloc_usable_size(memory));
 }
 
 void *malloc(size_t size) {

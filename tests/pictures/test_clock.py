@@ -143,13 +143,17 @@ def test_pixels_that_never_end(try_each):
 
 
 # An ExifTool that has no end at a file with this mark, in each of its calls or at one stage of `mend`. It reads requests as ExifTool does,
-# and otherwise its arguments. A fake program says by the length of a file how long it takes, in tenths of a second.
+# and otherwise its arguments. A fake program says by the length of a file how long it takes, in tenths of a second. One without an end says
+# so again and again: the caller may begin to wait late.
 MARK = b"has no end"
 TAKES = """#!/usr/bin/python3
 import json, os, sys, time
 def takes(seconds):
     with open(os.path.join(os.path.dirname(sys.argv[0]), "spent"), "a") as spent:
         spent.write("." * round(10 * seconds))
+def hangs():
+    while True:
+        takes(1000), time.sleep(0.05)
 """
 FAKE = (
     TAKES
@@ -182,14 +186,14 @@ FAKE_EXIV2 = (
 if "--version" in sys.argv:
     print("exiv2 0.27.6")
 elif b"has no end" in open(sys.argv[-1], "rb").read():
-    takes(1000), time.sleep(1000)
+    hangs()
 """
 )
 WITHOUT_END = {
-    "silent": "takes(1000), time.sleep(1000)",
-    "slow": "[(print(' ', end='', flush=True), takes(0.1)) for _ in range(100)], time.sleep(1000)",
+    "silent": "hangs()",
+    "slow": "[(print(' ', end='', flush=True), takes(0.1)) for _ in range(100)], hangs()",
     "long": "[print(' ' * 1_000_000, flush=True) for _ in range(10_000)]",
-    "deaf": "os.close(0), takes(1000), time.sleep(1000)",
+    "deaf": "os.close(0), hangs()",
 }
 GREEDY = "[bytearray(64 << 20) for _ in range(100)]"  # of which Python tells as Perl does
 NO_READER = b"\xff\x01Exiv2\xff\xd9"  # exiv2's own format

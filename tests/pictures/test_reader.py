@@ -8,6 +8,7 @@ import sys
 import time
 from concurrent.futures import ThreadPoolExecutor
 from pathlib import Path
+from types import SimpleNamespace
 
 import pytest
 from made_museum import first_night
@@ -15,6 +16,8 @@ from studio import TOP, needs, put
 from test_api import BEFORE, BOWL, FORMATS, Unseekable, facts
 
 from exifnorm import pictures
+from exifnorm_pictures.files import session
+from exifnorm_pictures.model import budgets
 
 # Each event by which Python starts a process
 WATCHED = """
@@ -99,25 +102,32 @@ def test_a_trailer_that_is_left_without_programs_is_named(tmp_path):
 
 
 class Slow(io.BytesIO):
-    """A body that comes slowly."""
+    """A body that comes slowly, by the clock of the test."""
+
+    now = 0.0
 
     def read(self, length=-1):
-        time.sleep(0.03 if length else 0)
+        Slow.now += 0.03 if length else 0
         return super().read(min(length, 1000) if length > 0 else length)
 
 
-@pytest.mark.parametrize("source", [Slow, lambda data: Unseekable(data, "")])
+def slow_body(data):
+    body = Unseekable(b"", "")
+    body.stream = Slow(data)
+    return body
+
+
+@pytest.mark.parametrize("source", [Slow, slow_body])
 def test_a_limit_of_time(source, monkeypatch):
-    if source is not Slow:
-        monkeypatch.setattr(
-            Unseekable, "read", lambda self, length=-1: (time.sleep(0.03 if length else 0), self.stream.read(min(length, 1000)))[1]
-        )
+    clock = SimpleNamespace(monotonic=lambda: Slow.now, thread_time=time.thread_time)
+    for module in (budgets, session):
+        monkeypatch.setattr(module, "time", clock)
     with pictures.Reader(programs=False, seconds=0.1) as reader:
         with pytest.raises(pictures.NotReadable, match="more than 0.1 seconds") as raised:
             reader.read(source(FORMATS["jpg"] + bytes(100_000)))
         assert raised.value.problem == "TooMuch"
         picture = reader.read(BEFORE / BOWL)
-        time.sleep(0.15)
+        Slow.now += 0.15
         assert list(picture.fields) and picture.meaning and reader.read(BEFORE / BOWL) is not None  # the time is that of each picture
 
 

@@ -341,7 +341,8 @@ def made_heif(folder: Path, ending: str, *words: str) -> Path:
 
 @needs("heif-enc")
 @pytest.mark.parametrize("ending, words", [("heic", ()), ("avif", ("-A",)), ("heic", ("blue.png",) * 11)])
-def test_heic_and_avif_have_one(ending: str, words: Sequence[str], tmp_path: Path) -> None:
+def test_heic_and_avif_have_one(ending: str, words: Sequence[str], tmp_path: Path, monkeypatch: pytest.MonkeyPatch) -> None:
+    monkeypatch.setattr(shrinking, "SECONDS", 600.0)  # of a clock, which a busy machine needs
     path = os.fsencode(made_heif(tmp_path, ending, *words))
     with session.Session(60.0, room=str(tmp_path)) as ours:
         kept = small_pictures.InPage()

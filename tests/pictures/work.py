@@ -44,7 +44,7 @@ class Work(NamedTuple):
 def compiled(folder):
     """The library that counts, in a folder."""
     library = folder / "count_work.so"
-    subprocess.run(["gcc", "-std=c99", "-Wall", "-Wextra", "-Werror", "-O2", "-shared", "-fPIC", "-o", library, SOURCE], check=True)
+    subprocess.run(["gcc", "-std=c11", "-Wall", "-Wextra", "-Werror", "-O2", "-shared", "-fPIC", "-o", library, SOURCE], check=True)
     return library
 
 
