@@ -301,8 +301,8 @@ def compare(before: Picture | Source, after: Picture | Source, *, ask_exiftool: 
     from .comparison.coded import Coded
 
     pair = [it if isinstance(it, Picture) else _read(it, _Limits(), compares=True) for it in (before, after)]
-    (first, head), (second, other_head) = ((_with_pixels(it), whole and whole.head) for it in pair for whole in [it.origin.whole()])
-    are_files = all(it.origin.path for it in pair)
+    (first, head), (second, other_head) = ((_with_pixels(it), whole and whole.head) for it in pair for whole in [it._origin.whole()])
+    are_files = all(it._origin.path for it in pair)
     with Session() as session:
         comparison = two_pictures.compare(first, second, session if ask_exiftool and are_files else None, heads=(head, other_head))
     compared = comparison.compared
@@ -316,7 +316,7 @@ def compare(before: Picture | Source, after: Picture | Source, *, ask_exiftool: 
 
 def _with_pixels(picture: Picture) -> PictureRecord:
     """The record of a picture with the digests of its coded picture and of the file, if this is still the one that was read."""
-    whole, record = picture.origin.whole(), picture.record
+    whole, record = picture._origin.whole(), picture._record
     if whole is None:
         return record
     (coded, beside, damage), sha256, _ = whole
@@ -326,5 +326,5 @@ def _with_pixels(picture: Picture) -> PictureRecord:
 
 def _difference(change: differing.FieldDifference) -> Difference:
     block = change.block or NAMES.get(change.directory, NAMES[EXIF])
-    before, after = (tuple(it.in_block(block) for it in side) or None for side in (change.before, change.after))
+    before, after = (tuple(it._in_block(block) for it in side) or None for side in (change.before, change.after))
     return Difference(change.name, before, after, change.is_equal_number, change.note)

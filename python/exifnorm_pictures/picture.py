@@ -102,20 +102,19 @@ class Block:
     - `data`: the bytes of the block, as they are in the file
     - `where`: its position in the file: "APP1 segment at 20"
     - `extractor`: the program that extracted it: "own", "exiftool" or "exiv2"
-    - `record`: the block as a catalogue has it, for the commands
     """
 
-    __slots__ = ("record", "data", "kind", "name", "status", "is_accepted", "digest", "where", "extractor", "_fields_of")
+    __slots__ = ("_record", "data", "kind", "name", "status", "is_accepted", "digest", "where", "extractor", "_fields_of")
 
     def __init__(self, record: BlockRecord, data: bytes, fields_of: Callable[[BlockRecord], list[Field]]) -> None:
-        self.record, self.data, self._fields_of = record, data, fields_of
+        self._record, self.data, self._fields_of = record, data, fields_of
         self.kind, self.name, self.where, self.extractor = record.kind, record.name, record.source, record.extractor
         self.status, self.is_accepted, self.digest = str(record.status), record.is_accepted, record.digest
 
     @property
     def fields(self) -> tuple[Field, ...]:
         """Its fields, which are made when they are first asked for; of a refused block those after a repair in memory, if one is known."""
-        return tuple(field.in_block(self.name) for field in self._fields_of(self.record))
+        return tuple(field._in_block(self.name) for field in self._fields_of(self._record))
 
     @property
     def refusal(self) -> Refusal | None:
@@ -124,19 +123,19 @@ class Block:
             return None
         from .refusals import causes  # which takes long to import, and few blocks are refused
 
-        cause = self.record.cause or self.status
-        words = causes.words_of(cause, self.record.kind) or (f"It is {self.status}: {cause}.", "")
-        return Refusal(self.name, cause, self.record.place, *words)
+        cause = self._record.cause or self.status
+        words = causes.words_of(cause, self._record.kind) or (f"It is {self.status}: {cause}.", "")
+        return Refusal(self.name, cause, self._record.place, *words)
 
     @property
     def repair(self) -> tuple[str, ...]:
         """The steps of the repair after which its fields were read. The file is as it was."""
-        return tuple(it.what for it in self.record.steps)
+        return tuple(it.what for it in self._record.steps)
 
     @property
     def loses(self) -> tuple[str, ...]:
         """What the repair loses."""
-        return tuple(loses(self.record.steps))
+        return tuple(loses(self._record.steps))
 
     @property
     def json(self) -> Members:
@@ -145,8 +144,8 @@ class Block:
 
     def _members(self, shown: ShownFields) -> Members:
         fields = list(map(_field_members, shown.of(self)))
-        rest = {"repair": [step._asdict() for step in self.record.steps], "fields": fields, "has_more_fields": shown.has_more}
-        return {**self.record.members, "extractor": self.extractor, **rest}
+        rest = {"repair": [step._asdict() for step in self._record.steps], "fields": fields, "has_more_fields": shown.has_more}
+        return {**self._record.members, "extractor": self.extractor, **rest}
 
     def __repr__(self) -> str:
         return f"Block(name={self.name!r}, status={self.status!r}, where={self.where!r})"
@@ -189,16 +188,13 @@ class Picture(Mapping[str, "Value"]):
 
     - `name`: the path or the name that it was read by, and `path` the same in bytes
     - `type`: the format: "JPEG", "PNG", "TIFF", "HEIC" ..
-    - `problem`, `detail`: why a command could not read it, as a word and a sentence; empty of one that `read` returns
-    - `origin`: the file that it was read from, for `compare`
 
-    Two pictures are equal if each part of both was read, and their Exif, IPTC and XMP mean the same. A picture without a field is empty, and
-    false as an empty dict is.
+    A picture equals itself alone; `same_as` compares two by what they mean. One without a field is empty, and false as an empty dict is.
     """
 
     __slots__ = (
-        *("name", "path", "type", "problem", "detail", "origin"),
-        *("_read", "_records", "_blocks", "_fields_of", "_names", "_texts", "_record"),
+        *("name", "path", "type", "_problem", "_detail", "_origin"),
+        *("_read", "_records", "_blocks", "_fields_of", "_names", "_texts", "_made_record"),
     )
 
     def __init__(
@@ -209,17 +205,18 @@ class Picture(Mapping[str, "Value"]):
         origin: Origin | None = None,
         texts: PictureTexts | None = None,
     ) -> None:
-        self.path, self.name, self.origin = name, os.fsdecode(name), origin or Origin()
-        self.type, self.problem, self.detail = read.type, read.problem or "", read.detail
+        self.path, self.name, self._origin = name, os.fsdecode(name), origin or Origin()  # which `compare` reads
+        # why a command could not read it; empty of one that `read` returns
+        self.type, self._problem, self._detail = read.type, read.problem or "", read.detail
         self._read, self._records, self._texts = read, records, texts
         self._blocks: tuple[Block, ...] | None = None
         # a block that refers to its picture would keep both until the next collection
         self._fields_of = partial(_fields_in_sets, records, read.rest, {})
         self._names: list[tuple[BlockRecord, dict[str, list[Field]]]] | None = None  # of each block
-        self._record: PictureRecord | None = None
+        self._made_record: PictureRecord | None = None
 
     @classmethod
-    def of(cls, name: bytes, read: Blocks) -> "Picture":
+    def _of(cls, name: bytes, read: Blocks) -> "Picture":
         """A picture by its blocks. One that goes over a limit has a problem."""
         try:
             return cls(name, read, [] if read.problem else judge_all(read))
@@ -235,7 +232,7 @@ class Picture(Mapping[str, "Value"]):
     def too_many(self) -> tuple[str, ...]:
         """The fields that were not read because their block has too many, such as "the fields of IPTC after the first 100,000": a text may be
         among them."""
-        return tuple(self.labelled.rests)
+        return tuple(self._labelled.rests)
 
     @property
     def damage(self) -> str:
@@ -244,9 +241,9 @@ class Picture(Mapping[str, "Value"]):
         return cut(self.not_read) or self._read.damage
 
     @property
-    def damage_behind(self) -> str:
+    def _damage_behind(self) -> str:
         """The same where all metadata stand before the damage."""
-        return "" if self.problem else self._read.damage
+        return "" if self._problem else self._read.damage
 
     @property
     def not_known(self) -> tuple[str, ...]:
@@ -287,21 +284,21 @@ class Picture(Mapping[str, "Value"]):
         return "+".join(it or "-" for it in meanings)
 
     @property
-    def record(self) -> PictureRecord:
-        """The picture as a catalogue has it, for the commands."""
-        if self._record is None:
-            path = os.path.abspath(self.origin.path) if self.origin.path else b""
-            self._record = PictureRecord.of_blocks(path, b"", self.origin.stamp, self._read, self._records)
-        return self._record
+    def _record(self) -> PictureRecord:
+        """The picture as a catalogue has it."""
+        if self._made_record is None:
+            path = os.path.abspath(self._origin.path) if self._origin.path else b""
+            self._made_record = PictureRecord.of_blocks(path, b"", self._origin.stamp, self._read, self._records)
+        return self._made_record
 
     @property
     def json(self) -> Members:
         """What `show --json` prints of it, for `json.dumps`: docs/JSON.md describes the keys, which `schema` and `record` precede there."""
-        return self.members(ShownFields())
+        return self._members(ShownFields())
 
-    def members(self, shown: ShownFields) -> Members:
+    def _members(self, shown: ShownFields) -> Members:
         """The same, with the fields that are still shown."""
-        about = {**path_members(self.path), "problem": self.problem or None, "detail": self.detail or None, "type": self.type or None}
+        about = {**path_members(self.path), "problem": self._problem or None, "detail": self._detail or None, "type": self.type or None}
         blocks = [it._members(shown) for it in self.blocks]
         damaged = {"damage": self.damage or None, "not_known": list(self.not_known)}
         return {**about, "blocks": blocks, "not_read": list(self.not_read), **damaged}
@@ -340,7 +337,7 @@ class Picture(Mapping[str, "Value"]):
         """All fields with a name, of all blocks: with its group or without, or the field's key, such as "dc:title", in capital or small letters.
         If none has it, those that ExifTool, exiv2 or the standard name so ("EXIF:Model", "Exif.Photo.FNumber", "DateTimeDigitized"), and the
         members of structures as ExifTool has them ("XMP-iptcExt:LocationCreatedCity")."""
-        return tuple(field.in_block(record.name) for record, fields in self._named(name) for field in fields)
+        return tuple(field._in_block(record.name) for record, fields in self._named(name) for field in fields)
 
     @overload
     def get(self, name: str, default: Value | D = None) -> Value | D:
@@ -400,18 +397,19 @@ class Picture(Mapping[str, "Value"]):
     def __len__(self) -> int:
         return len(self.names)
 
-    def __eq__(self, other: object) -> bool:
-        if not isinstance(other, Picture):
-            return NotImplemented
-        return self is other or (self._meanings is not None and self._meanings == other._meanings)
+    __eq__ = object.__eq__  # that of a Mapping would compare all values
+    __hash__ = object.__hash__
 
-    def __hash__(self) -> int:
-        return object.__hash__(self) if self._meanings is None else hash(self._meanings)
+    def same_as(self, other: Picture) -> bool | None:
+        """Whether the Exif, IPTC and XMP of two pictures mean the same. None if it isn't known: a block of one is refused, or a part was not
+        read. Their pixels are not compared; `compare` does that, and names the differences."""
+        one, two = self._meanings, other._meanings
+        return None if one is None or two is None else one == two
 
     @property
     def _meanings(self) -> tuple[str | None, ...] | None:
-        """What equal pictures share; None of one that is equal to no other."""
-        meanings = tuple(self.record.meanings)
+        """What pictures share that mean the same; None of one of which it isn't known."""
+        meanings = tuple(self._record.meanings)
         return meanings if self.is_whole and None not in meanings else None
 
     @property
@@ -419,11 +417,11 @@ class Picture(Mapping[str, "Value"]):
         """The texts by label, such as "title" and "keywords", with the field of each."""
         from .fields.labels import LABEL_WORDS
 
-        return tuple(sorted((it for it in self.labelled.texts if not it.is_empty), key=lambda it: LABEL_WORDS.index(it.label)))
+        return tuple(sorted((it for it in self._labelled.texts if not it.is_empty), key=lambda it: LABEL_WORDS.index(it.label)))
 
     @property
-    def labelled(self) -> PictureTexts:
-        """All texts, also those that are empty, in the order of the standards, for the commands."""
+    def _labelled(self) -> PictureTexts:
+        """All texts, also those that are empty, in the order of the standards."""
         if self._texts is None:
             from .catalogue.texts import texts_of  # which show and explain don't need
 
@@ -444,9 +442,9 @@ class Picture(Mapping[str, "Value"]):
             near = [] if word else difflib.get_close_matches(label.casefold(), LABEL_WORDS, 1)
             perhaps = f" (perhaps {near[0]!r} is meant)" if near else ""
             raise ValueError(f"{repr(label)[:100]} is no label{perhaps}; the labels are {', '.join(LABEL_WORDS)}")
-        of_label = [it for it in self.labelled.texts if it.label == word]
+        of_label = [it for it in self._labelled.texts if it.label == word]
         order = STANDARDS if self._read.is_iptc_changed() else (NAMES[EXIF], NAMES[XMP], NAMES[IPTC])
-        best = chosen(of_label, conflicts(self.labelled.texts) if len(of_label) > 1 else [], order)
+        best = chosen(of_label, conflicts(self._labelled.texts) if len(of_label) > 1 else [], order)
         return best.texts if best else ()
 
     @property
@@ -454,7 +452,7 @@ class Picture(Mapping[str, "Value"]):
         """The labels for which Exif, IPTC and XMP have different texts, and the position if it differs: how, and all texts with their fields."""
         from .catalogue.conflicts import conflicts
 
-        return tuple(it for it in conflicts(self.labelled.texts, self.labelled.located) if not it.is_alike)
+        return tuple(it for it in conflicts(self._labelled.texts, self._labelled.located) if not it.is_alike)
 
     @property
     def taken(self) -> datetime | None:

@@ -81,14 +81,22 @@ def test_a_name_of_no_field_is_told_with_the_one_that_is_meant(name, meant):
 
 
 def test_a_picture_is_a_mapping():
-    bowl, again, phone = (pictures.read(BEFORE / it) for it in (BOWL, BOWL, PHONE))
+    bowl, again = pictures.read(BEFORE / BOWL), pictures.read(BEFORE / BOWL)
     assert isinstance(bowl, Mapping) and dict(bowl.items()) == dict(zip(bowl.keys(), bowl.values())) == dict(bowl)
     assert len(bowl) == len(bowl.names) and tuple(bowl.keys()) == bowl.names
-    assert bowl == again and len({bowl, again}) == 1 and bowl != dict(bowl)
-    assert pictures.read(BEFORE / VASE) == pictures.read(AFTER / VASE) != bowl
-    assert phone == phone != pictures.read(BEFORE / PHONE)  # with a refused block it is like no other
+    assert bowl == bowl != again and len({bowl, again}) == 2 and bowl != dict(bowl)  # equal are only those that are one object
     plain = pictures.read_bytes(SMALL_JPEG)
-    assert not plain and len(plain) == 0 and plain == pictures.read_bytes(SMALL_JPEG)
+    assert not plain and len(plain) == 0
+
+
+def test_pictures_that_mean_the_same():
+    before, after, bowl, phone, again = (pictures.read(it) for it in (BEFORE / VASE, AFTER / VASE, BEFORE / BOWL, *[BEFORE / PHONE] * 2))
+    assert before.same_as(after) is True and before.same_as(bowl) is False
+    assert [it.same_as(phone) for it in (bowl, again, phone)] == [None] * 3  # it has a refused block
+    cut = pictures.read_bytes((BEFORE / VASE).read_bytes()[:3000])
+    assert cut.is_whole is False and cut.same_as(before) is before.same_as(cut) is None
+    plain = [pictures.read_bytes(it) for it in (SMALL_JPEG, png())]
+    assert plain[0].same_as(plain[1]) is True and plain[0].same_as(bowl) is False  # both have no metadata, which is known
 
 
 def test_a_value_of_a_type():
@@ -400,8 +408,8 @@ def test_a_record_that_declares_utf_8_has_no_guess():
     for sets, guess in (([declared], ""), ([], "character set guessed: UTF-8"), ([declared, declared], "character set guessed: UTF-8")):
         found = pictures.read_bytes(jpeg(with_record(b"".join(sets) + data_set(80, "Kropáč".encode()))))
         (field,) = found.find("IPTC:By-line")
-        assert (field.guess, pickle.loads(pickle.dumps(field)).guess, field.in_block("second IPTC").guess) == (guess,) * 3
-        assert [it.guess for it in found.captions] == [guess] and field == Field(*field.identity)
+        assert (field.guess, pickle.loads(pickle.dumps(field)).guess, field._in_block("second IPTC").guess) == (guess,) * 3
+        assert [it.guess for it in found.captions] == [guess] and field == Field(*field._identity)
 
 
 @pytest.mark.parametrize(
@@ -462,8 +470,8 @@ def test_pages_that_share_a_block_cost_it_once(monkeypatch, folder, called):
     """A file of 50 kB can have 20 million fields. Neither a name nor the texts need a copy of them for each page."""
     pages, keywords = 40, [b"word %d" % number for number in range(200)]
     (folder / "a.tif").write_bytes(shared(pages, b"".join(data_set(25, it) for it in keywords)))
-    read, copied, in_block = [], [], Field.in_block
-    monkeypatch.setattr(Field, "in_block", lambda field, name: copied.append(name) or in_block(field, name))
+    read, copied, in_block = [], [], Field._in_block
+    monkeypatch.setattr(Field, "_in_block", lambda field, name: copied.append(name) or in_block(field, name))
     monkeypatch.setattr(texts, "of_labelled", lambda fields: read.append(fields) or labels.of_labelled(fields))
     picture = pictures.read("a.tif")
     assert picture.get("Keywords") == tuple(it.decode() for it in keywords) and "Headline" not in picture

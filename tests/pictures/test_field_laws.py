@@ -116,7 +116,7 @@ def made_of(field):
 def test_what_is_kept_is_the_value(meaning):
     fields = fields_of(meaning)
     again = unpacked(packed(fields).octets)
-    assert again == [field.with_content(kept_value(field)) for field in fields]
+    assert again == [field._with_content(kept_value(field)) for field in fields]
     whole = [(one, other) for one, other in zip(fields, again) if not isinstance(other.content, Long)]
     assert all(
         one == other and repr(typed.value_of(one)) == repr(typed.value_of(other)) and typed.raw(one) == typed.raw(other)

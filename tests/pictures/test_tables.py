@@ -551,7 +551,7 @@ def _listed(listing):
 
 def _fields(form):
     return [
-        (*it.identity[:4], it.content.hex() if isinstance(it.content, bytes) else numbers_text(it.type, it.content))
+        (*it._identity[:4], it.content.hex() if isinstance(it.content, bytes) else numbers_text(it.type, it.content))
         for it in normal_form.fields_of_form(form)
     ]
 

@@ -237,7 +237,7 @@ class Packets(unittest.TestCase):
         other = fields(xmp("<dc:format>two</dc:format><dc:subject><rdf:Bag><rdf:li>a</rdf:li><rdf:li>b</rdf:li></rdf:Bag></dc:subject>"))
         found = [(it.name, bare(it.before), bare(it.after)) for it in differences(one, other)]
         self.assertEqual(found, [("XMP-dc:format", '"one"', '"two"')])
-        self.assertEqual((one[1].identity[1:4], listing.exact(one[1])), (("dc:subject", "Bag", 2), 'Bag["a", "b"]'))
+        self.assertEqual((one[1]._identity[1:4], listing.exact(one[1])), (("dc:subject", "Bag", 2), 'Bag["a", "b"]'))
         lines = list(listing.readable(one, "xmp"))
         self.assertEqual([it.split() for it in lines[1:3]], [["[XMP]"], ["dc:format", "text", '"one"']])
         long = [listing.exact(fields(title("x" * 100_000 + it))[0]) for it in "ab"]

@@ -271,7 +271,7 @@ for (const line of readFileSync(process.argv[1], "ascii").split("\\n")) {
 
 def edits_by_program(first, second):
     """The names and the notes of the edits; those of programs count only if there are no others."""
-    records = [exifnorm.read_bytes(it).record for it in (first, second)]
+    records = [exifnorm.read_bytes(it)._record for it in (first, second)]
     edits = [*edits_of(two_pictures.compare(*records, None).compared.changes).values()]
     return sorted([it.name, it.note] for it in edits if it.name != PROGRAMS or len(edits) == 1)
 

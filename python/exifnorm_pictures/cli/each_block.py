@@ -36,7 +36,7 @@ def each_picture(files: Files, run: Run, is_about_file: bool = False) -> Iterato
             read = blocks_of_named(name, run.session, run.whole)
             if is_about_file and not read.problem:
                 read.damage = read.damage or coded_picture.of_file(name, Budget()).damage
-            yield Picture.of(name, read)
+            yield Picture._of(name, read)
 
 
 def each_block(
@@ -52,7 +52,7 @@ def each_block(
         worst = max(worst, status_of(picture, refused_too))
         _print(files.command, picture, [f"== {shown_path(picture.path)}"] if is_list(files) else [], describer(), refused_too)
         print_lines(of_rest(picture))
-        if picture.not_read and not picture.problem:
+        if picture.not_read and not picture._problem:
             print_lines([f"not wholly read: {', '.join(unread(picture, picture.not_read))}"])
     return worst
 
@@ -63,17 +63,17 @@ _OF_CATALOGUE = (
 
 
 def _print(command: str, picture: Picture, head: list[str], describe: Describe, refused_too: bool) -> None:
-    if picture.problem:
-        line = f"{picture.problem}: {picture.detail}"
+    if picture._problem:
+        line = f"{picture._problem}: {picture._detail}"
         if os.path.isdir(picture.path):
             line = _of_folder(command, picture.path)
-        elif picture.problem == Problem.NO_PICTURE and is_catalogue(picture.name):
+        elif picture._problem == Problem.NO_PICTURE and is_catalogue(picture.name):
             line = _OF_CATALOGUE
         print_lines([*head, line])
         return
     for block in picture.blocks:
         is_described = block.is_accepted or block.repair or refused_too
-        lines = describe(picture, block) if is_described else [f"{block.name}: {block.record.line}"]
+        lines = describe(picture, block) if is_described else [f"{block.name}: {block._record.line}"]
         if lines:
             print_lines([*head, *lines])
             head = []

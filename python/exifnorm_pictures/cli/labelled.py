@@ -86,7 +86,7 @@ def _in_folder(run: Run, folder: bytes) -> Iterator[Picture]:
     count = alone = 0
     for file in below([folder], closed.append):
         picture = _reading(run, file.path)
-        if picture.problem not in (Problem.NO_PICTURE, Problem.NOT_A_FILE):
+        if picture._problem not in (Problem.NO_PICTURE, Problem.NOT_A_FILE):
             count += 1
             alone += picture.type == "XMP"
             yield picture
@@ -102,13 +102,14 @@ def _in_folder(run: Run, folder: bytes) -> Iterator[Picture]:
 
 
 def _reading(run: Run, name: bytes) -> Picture:
-    return Picture.of(name, blocks_of_named(name, run.session, run.whole))
+    return Picture._of(name, blocks_of_named(name, run.session, run.whole))
 
 
 def refused(picture: Picture) -> list[str]:
     """The blocks that aren't accepted, in a line each."""
     return [
-        f"{block.name}: {block.record.line}" + (f"; read after repair in memory: {steps.words(block.record.steps)}" if block.repair else "")
+        f"{block.name}: {block._record.line}"
+        + (f"; read after repair in memory: {steps.words(block._record.steps)}" if block.repair else "")
         for block in picture.blocks
         if not block.is_accepted
     ]
@@ -127,7 +128,7 @@ def is_open(picture: Picture) -> bool:
 def members(picture: Picture) -> Members:
     """The beginning of a JSON object."""
     known = {"refused": refused(picture), "not_read": picture.not_read, "too_many": picture.too_many, **damage_members(picture)}
-    return {**picture_object(picture.path, picture.problem, picture.detail), **known}
+    return {**picture_object(picture.path, picture._problem, picture._detail), **known}
 
 
 # The fields of texts
@@ -178,15 +179,15 @@ def run(files: Files, run: Run, output: Output) -> int:
 
 def _row(picture: Picture) -> list[Cell]:
     """A row of a table: the text of each label, of several standards one that is whole, and no camera's."""
-    known = conflicts(picture.labelled.texts, picture.labelled.located)
-    texts = [best([one for one in picture.labelled.texts if one.label == word], known) for word in LABEL_WORDS]
-    problem = [f"{picture.problem}: {picture.detail}"] if picture.problem else []
+    known = conflicts(picture._labelled.texts, picture._labelled.located)
+    texts = [best([one for one in picture._labelled.texts if one.label == word], known) for word in LABEL_WORDS]
+    problem = [f"{picture._problem}: {picture._detail}"] if picture._problem else []
     rest = "; ".join([*problem, *refused(picture), *unread(picture, not_read(picture)), *picture_cut(picture)])
     return [
         picture.path,
         *texts,
         *(_position(picture) or (None, None)),
-        "; ".join(own_texts(picture.labelled.texts)),
+        "; ".join(own_texts(picture._labelled.texts)),
         "; ".join(one.label for one in known if one.is_real),
         rest,
     ]
@@ -199,13 +200,13 @@ def _position(picture: Picture) -> list[float]:
 
 
 def _lines(picture: Picture) -> Iterator[str]:
-    if picture.problem:
-        yield f"{picture.problem}: {picture.detail}"
+    if picture._problem:
+        yield f"{picture._problem}: {picture._detail}"
         return
     yield from refused(picture)
-    known = {one.label: one for one in conflicts(picture.labelled.texts)}
+    known = {one.label: one for one in conflicts(picture._labelled.texts)}
     for word in LABEL_WORDS:
-        yield from _of_label(word, [one for one in picture.labelled.texts if one.label == word], known.get(word))
+        yield from _of_label(word, [one for one in picture._labelled.texts if one.label == word], known.get(word))
     if place := _position(picture):
         yield f"{_padded(POSITION)} {Place(*place).text}"
     if not picture.blocks:
@@ -219,7 +220,7 @@ def _lines(picture: Picture) -> Iterator[str]:
 
 def _has_no_text(picture: Picture) -> bool:
     """Whether a picture with blocks has no text in any of them."""
-    return not (refused(picture) or picture.too_many) and all(one.is_empty for one in picture.labelled.texts)
+    return not (refused(picture) or picture.too_many) and all(one.is_empty for one in picture._labelled.texts)
 
 
 def _of_label(word: str, texts: Sequence[Caption], conflict: Conflict | None) -> Iterator[str]:
@@ -237,7 +238,7 @@ def _padded(word: str) -> str:
 
 
 def _members(picture: Picture) -> Members:
-    texts, shown = [text for text in picture.labelled.texts if not text.is_empty], Shown()
+    texts, shown = [text for text in picture._labelled.texts if not text.is_empty], Shown()
     captions: list[Members] = []
     for text in texts:
         if shown.is_full:

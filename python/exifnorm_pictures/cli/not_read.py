@@ -20,7 +20,7 @@ def unread(picture: Picture, parts: Sequence[str]) -> list[str]:
 
 def picture_cut(picture: Picture) -> list[str]:
     """Where a file is cut off or damaged whose metadata were read."""
-    fault = picture.damage_behind
+    fault = picture._damage_behind
     return [f"{'cut off behind' if fault.startswith(CUT) else 'damaged outside'} its metadata: {fault}"] if fault else []
 
 
@@ -45,12 +45,12 @@ def damage_members(picture: Picture) -> Members:
 
 def lacks_some(picture: Picture, parts: Sequence[str]) -> bool:
     """Whether the status of a command says that not everything is known: a file, a block or one of these parts was not read."""
-    return bool(picture.problem or parts) or any(not it.is_accepted for it in picture.blocks)
+    return bool(picture._problem or parts) or any(not it.is_accepted for it in picture.blocks)
 
 
 def damage_lines(picture: Picture) -> list[str]:
     """What may be missing of a file that is cut off or damaged, and the remedy; nothing for a whole file."""
-    if picture.problem and picture.damage:
+    if picture._problem and picture.damage:
         return [f"The file is cut off: {picture.damage}.", f"  Remedy: {REMEDY}"]
     if not damage(picture.not_read):
         return [line for it in picture_cut(picture) for line in (f"The file is {it}.", f"  Remedy: {REMEDY}")]

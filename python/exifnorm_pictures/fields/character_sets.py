@@ -29,7 +29,7 @@ def in_found_set(fields: list[Field], blocks: Iterable[list[Field]], rest: Conta
         return fields
     every = list(chain.from_iterable(blocks))
     found = _shown(unclear, every) + ["mac_roman"] * _is_of_macintosh(unclear, every, rest)
-    return [it.with_content(_in_set(it.content, found[0])) if _is_unclear(it) else it for it in fields] if found else fields
+    return [it._with_content(_in_set(it.content, found[0])) if _is_unclear(it) else it for it in fields] if found else fields
 
 
 def _shown(unclear: list[bytes], every: list[Field]) -> list[str]:

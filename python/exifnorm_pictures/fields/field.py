@@ -52,7 +52,7 @@ class Field:
     count: int
     content: Content
     _block: str
-    declares_utf8: ClassVar[bool] = False  # whether its record does
+    _declares_utf8: ClassVar[bool] = False  # whether its record does
 
     def __init__(self, directory: str, tag: str, type: str, count: int, content: Content, block: str = "") -> None:
         _set_directory(self, directory)
@@ -69,31 +69,31 @@ class Field:
         raise AttributeError(f"a field doesn't change: {name}")
 
     def __reduce__(self) -> tuple[Any, ...]:
-        return type(self), (*self.identity, self._block)
+        return type(self), (*self._identity, self._block)
 
     def __eq__(self, other: object) -> bool:
         if not isinstance(other, Field):
             return NotImplemented
-        return self.identity == other.identity
+        return self._identity == other._identity
 
     def __hash__(self) -> int:
-        return hash(self.identity)
+        return hash(self._identity)
 
     def __repr__(self) -> str:
         return f"Field(name={self.name!r}, text={self.text!r})"
 
     @property
-    def identity(self) -> Identity:
+    def _identity(self) -> Identity:
         """What two fields share exactly if they mean the same."""
         return self.directory, self.tag, self.type, self.count, self.content
 
-    def with_content(self, content: Content) -> "Field":
+    def _with_content(self, content: Content) -> "Field":
         """The same field with another content."""
-        return type(self)(*self.identity[:4], content, self._block)
+        return type(self)(*self._identity[:4], content, self._block)
 
-    def in_block(self, name: str) -> "Field":
+    def _in_block(self, name: str) -> "Field":
         """The same field in the block of this name."""
-        return self if name == self.block else type(self)(*self.identity, name)
+        return self if name == self.block else type(self)(*self._identity, name)
 
     @property
     def block(self) -> str:
@@ -169,7 +169,7 @@ class DeclaredField(Field):
     """A DataSet of a record that declares its texts as UTF-8 (1:90)."""
 
     __slots__ = ()
-    declares_utf8 = True
+    _declares_utf8 = True
 
 
 # By which a new field gets its attributes, in half the time of object.__setattr__

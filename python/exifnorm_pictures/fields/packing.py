@@ -40,7 +40,7 @@ def packed(fields: Sequence[Field]) -> Packed:
     >>> packed([Field("main", "010f", "ASCII", 4, b"abc\\0")]).octets
     b'[["main","010f","ASCII",4,"abc"]]'
     """
-    lines = [_json_of_field(*field.identity) for field in fields]
+    lines = [_json_of_field(*field._identity) for field in fields]
     text = f"[{','.join(lines)}]"
     octets = text.encode("ascii")
     if len(octets) > FIELD_BYTES:

@@ -156,7 +156,7 @@ def guess_of(field: Field) -> str:
         return ""
     if is_comment(field) and (known := _guess_of_comment(field, octets)) is not None:
         return known
-    return "" if octets.isascii() else decoded(octets, field.type == "UTF8" or field.declares_utf8)[1]
+    return "" if octets.isascii() else decoded(octets, field.type == "UTF8" or field._declares_utf8)[1]
 
 
 def _guess_of_comment(field: Field, octets: bytes) -> str | None:

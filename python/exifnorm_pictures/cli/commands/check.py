@@ -181,10 +181,10 @@ def _count(counts: _Counts, picture: Picture, chosen: set[str]) -> list[Conflict
     """The conflicts of a picture in some labels, which are counted."""
     counted = [one for one in picture.conflicts if one.label in chosen]
     counts.left_out.update(one.label for one in picture.conflicts if one.is_real and one.label not in chosen)
-    counts.pictures += not picture.problem
+    counts.pictures += not picture._problem
     counts.not_wholly_read += is_open(picture)
-    counts.sidecars += any(one.block.endswith(SIDECAR) for one in picture.labelled.texts)
-    counts.in_several_standards += bool(conflicts(picture.labelled.texts, picture.labelled.located))
+    counts.sidecars += any(one.block.endswith(SIDECAR) for one in picture._labelled.texts)
+    counts.in_several_standards += bool(conflicts(picture._labelled.texts, picture._labelled.located))
     real = [one.label for one in counted if one.is_real]
     counts.contradicting += bool(real)
     counts.differing_in_form += bool(counted) and not real
@@ -197,8 +197,8 @@ def _print_rows(table: Table, picture: Picture, conflicts: Sequence[Conflict]) -
     """A row for each label; one for what was not read, since a picture without a row would seem to have no contradiction."""
     for conflict in conflicts:
         table.row(picture.path, conflict.label, conflict.kind, conflict.detail, *_texts(conflict))
-    if picture.problem:
-        table.row(picture.path, None, "not read", f"{picture.problem}: {picture.detail}")
+    if picture._problem:
+        table.row(picture.path, None, "not read", f"{picture._problem}: {picture._detail}")
     parts = [", ".join(unread(picture, not_read(picture)))] * bool(not_read(picture))
     for what in (*refused(picture), *parts, *picture_cut(picture)):
         table.row(picture.path, None, "not read", what)
@@ -230,8 +230,8 @@ def _print_conflicts(picture: Picture, conflicts: Sequence[Conflict]) -> None:
     print_lines([name] * bool(conflicts))
     for conflict in conflicts:
         print_lines(_conflict_lines(conflict))
-    if picture.problem:
-        print_line(f"{name}: {picture.problem}: {picture.detail}")
+    if picture._problem:
+        print_line(f"{name}: {picture._problem}: {picture._detail}")
     print_lines(f"{name}: not wholly read: {what}" for what in _unread(picture))
     print_lines(f"{name}: {what}" for what in picture_cut(picture))
 

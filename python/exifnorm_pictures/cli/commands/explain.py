@@ -38,20 +38,20 @@ def run(arguments: argparse.Namespace) -> int:
         if block.is_accepted:
             return [f"{block.name}: ok"]
         mended = _tried_of(picture, tried)
-        return [f"{block.name}: {block.record.line}", *_explained(block, mended).lines()[1:], *_repair(block), *_lines(mended)]
+        return [f"{block.name}: {block._record.line}", *_explained(block, mended).lines()[1:], *_repair(block), *_lines(mended)]
 
     return each_block(files, run, lambda: describe, True, damage_lines)
 
 
 def _explained(block: Block, mended: mend.Mended | str) -> explain.Explanation:
-    explained = explain.explain_packet(block.record, block.data) if block.kind == XMP else explain.explain(block.kind, block.data)
+    explained = explain.explain_packet(block._record, block.data) if block.kind == XMP else explain.explain(block.kind, block.data)
     explained.is_without_remedy = isinstance(mended, mend.Mended) and mended.remedy == mend.Remedy.NONE
     return explained
 
 
 def _tried_of(picture: Picture, tried: Try) -> mend.Mended | str:
     """What `mend` does with a picture, or why that isn't known: nothing is tried of one whose XMP is over a limit."""
-    if any(it.kind == XMP and it.record.cause in OVER_LIMITS for it in picture.blocks):
+    if any(it.kind == XMP and it._record.cause in OVER_LIMITS for it in picture.blocks):
         return "ExifTool may take long for a packet that is over a limit"
     return tried(picture.path)
 
@@ -87,7 +87,7 @@ def _repair(block: Block) -> list[str]:
     if not block.repair:
         return ["  Repair in memory: none is known"] if block.status == Status.REFUSED and block.kind == EXIF else []
     lines = [
-        f"  Repair in memory: {steps.words(block.record.steps)}; then {len(block.fields)} field{'s are' if len(block.fields) != 1 else ' is'} read, see show"
+        f"  Repair in memory: {steps.words(block._record.steps)}; then {len(block.fields)} field{'s are' if len(block.fields) != 1 else ' is'} read, see show"
     ]
     return lines + [f"  That repair loses {' and '.join(block.loses)}: by it, nothing is called the same"] * bool(block.loses)
 
@@ -106,7 +106,7 @@ def _print_objects(files: Files, run: Run, tried: Try) -> int:
         for block in picture.blocks:
             mended = "" if block.is_accepted else _tried_of(picture, tried)
             print_object("explain", "block", {**path_members(picture.path), **_block_members(block, mended)})
-        if picture.problem or picture.not_read or picture.damage or not picture.blocks:
+        if picture._problem or picture.not_read or picture.damage or not picture.blocks:
             print_object("explain", "picture", _picture_members(picture))
     return worst
 
@@ -115,10 +115,10 @@ def _block_members(block: Block, mended: mend.Mended | str) -> Members:
     explained = {} if block.is_accepted else _explained(block, mended).members()
     words = {key: explained.get(key, value) for key, value in _WITHOUT.items()}
     tried = None if isinstance(mended, str) else {"step": mended.remedy, "lost": mended.lost, "gained": mended.gained}
-    return {**block.record.members, **words, "repair": [step._asdict() for step in block.record.steps], "mend": tried}
+    return {**block._record.members, **words, "repair": [step._asdict() for step in block._record.steps], "mend": tried}
 
 
 def _picture_members(picture: Picture) -> Members:
-    about = {**picture_object(picture.path, picture.problem, picture.detail), "type": picture.type or None}
+    about = {**picture_object(picture.path, picture._problem, picture._detail), "type": picture.type or None}
     rest = {"not_read": picture.not_read, **damage_members(picture), "remedy": damage_remedy(picture)}
     return {**about, "blocks": len(picture.blocks), **rest}

@@ -39,7 +39,7 @@ def run(arguments: argparse.Namespace) -> int:
         if table:
             _print_rows(table, picture, shown)
         else:
-            print_object("show", "picture", picture.members(shown))
+            print_object("show", "picture", picture._members(shown))
         worst = max(worst, status_of(picture), UNKNOWN if shown.left_out else SUCCESS)
     return worst
 
@@ -73,9 +73,9 @@ _COLUMN = 30  # characters of a name, of which few have more
 
 def _repaired(block: Block) -> list[str]:
     """The lines before fields that are read after a repair."""
-    text = f"  read after repair in memory ({steps.words(block.record.steps)}), which is tested, and not proved; the file is as it was"
+    text = f"  read after repair in memory ({steps.words(block._record.steps)}), which is tested, and not proved; the file is as it was"
     lost = [f"  the repair loses {' and '.join(block.loses)}: nothing is called the same by it"] * bool(block.loses)
-    return [f"{block.name}: {block.record.line}", text, *lost]
+    return [f"{block.name}: {block._record.line}", text, *lost]
 
 
 # --csv
@@ -86,8 +86,8 @@ def _print_rows(table: Table, picture: Picture, shown: ShownFields) -> None:
     for block in picture.blocks:
         note = "read after repair in memory" if block.repair else None
         if not block.is_accepted:
-            repair = f"; repaired in memory: {steps.words(block.record.steps)}" if note else ""
-            table.row(picture.path, block.name, *_NO_FIELD, block.record.line + repair)
+            repair = f"; repaired in memory: {steps.words(block._record.steps)}" if note else ""
+            table.row(picture.path, block.name, *_NO_FIELD, block._record.line + repair)
         for field in shown.of(block):
             values = (field.name, field.key, field.type, field.count, field.text, field.exact)
             table.row(picture.path, block.name, *values, note)
@@ -102,8 +102,8 @@ _NO_FIELD = (None,) * 6
 
 def _notes(picture: Picture) -> Iterator[str]:
     """What a picture has instead of fields, and what was not read of it."""
-    if picture.problem:
-        yield f"{picture.problem}: {picture.detail}"
+    if picture._problem:
+        yield f"{picture._problem}: {picture._detail}"
     elif not picture.blocks:
         yield no_block(picture)
     yield from (f"not read: {what}" for what in unread(picture, picture.not_read))

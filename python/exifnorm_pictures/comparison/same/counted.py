@@ -108,7 +108,7 @@ def _of_others(counting: Sequence[Field], choice: Choice) -> str:
 
 def _with_exact_xmp(field: Field) -> Field:
     """A field, one of XMP with its exact value, in which the members of a list without an order have one."""
-    return field.with_content(exact(field)) if field.directory == "xmp" else field  # type: ignore[arg-type]
+    return field._with_content(exact(field)) if field.directory == "xmp" else field  # type: ignore[arg-type]
 
 
 def _digest(fields: Sequence[Field], choice: Choice) -> str:
@@ -119,7 +119,7 @@ def _digest(fields: Sequence[Field], choice: Choice) -> str:
 
 
 def _sum_of(fields: Sequence[Field]) -> str:
-    return _sum([it.identity for it in fields])
+    return _sum([it._identity for it in fields])
 
 
 def _sum(rows: Sequence[tuple[object, ...]]) -> str:
