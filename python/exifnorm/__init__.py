@@ -34,11 +34,11 @@ is tested.
 """
 
 from . import blocks as blocks, pictures as pictures
-from .blocks import *  # noqa: F401
-from .pictures import __all__ as _of_pictures
+from ._late import late
 
 TYPE_CHECKING = False  # that of `typing`, which takes long to import
 if TYPE_CHECKING:
+    from .blocks import *  # noqa: F401
     from .pictures import *  # noqa: F401
 
 __version__ = "1.0.0"
@@ -48,14 +48,4 @@ __all__ += blocks.__all__
 __all__ += pictures.__all__
 
 if not TYPE_CHECKING:  # a type checker would take any name for one of these
-
-    def __getattr__(name):
-        """The calls for whole pictures are imported when a program asks for one: their package takes longer than this one."""
-        if name in _of_pictures:
-            found = globals()[name] = getattr(pictures, name)
-            return found
-        raise AttributeError(f"module {__name__!r} has no attribute {name!r}")
-
-
-def __dir__() -> "list[str]":
-    return sorted({*globals(), *__all__})
+    __getattr__, __dir__ = late(globals(), lambda name: f"exifnorm.{'pictures' if name in pictures.__all__ else 'blocks'}")

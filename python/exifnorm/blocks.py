@@ -7,29 +7,32 @@
 The calls for whole pictures, such as `exifnorm.read`, are in `exifnorm.pictures`.
 """
 
-from ._calls import Octets, digest, embeddable, kind, normal, same, show, version
-from ._captions import BlockCaption, captions
-from ._errors import LIMIT, HeadRefused, LibraryMissing, NormalTooLong, PictureRefused, Refused, TooMany, XmpNotRead, XmpRefused
-from ._fields import BlockField, Ratio, Values
-from ._jpeg import (
-    JpegBlock,
-    JpegPart,
-    NotRead,
-    Resource,
-    Unread,
-    jpeg_blocks,
-    jpeg_parts,
-    jpeg_same,
-    jpeg_same_blocks,
-    jpeg_unread,
-    jpeg_xmp,
-    photoshop_resources,
-)
-from ._library import Status
-from ._properties import XmpContainer, XmpProperty, XmpResource, XmpStructure, XmpText, XmpValue
-from ._reading import fields
-from ._xmp import xmp_normal, xmp_properties
+from ._late import late
 
+TYPE_CHECKING = False  # that of `typing`, which takes long to import
+if TYPE_CHECKING:
+    from ._calls import Octets, digest, embeddable, kind, normal, same, show, version
+    from ._captions import BlockCaption, captions
+    from ._errors import LIMIT, HeadRefused, LibraryMissing, NormalTooLong, PictureRefused, Refused, TooMany, XmpNotRead, XmpRefused
+    from ._fields import BlockField, Ratio, Values
+    from ._jpeg import (
+        JpegBlock,
+        JpegPart,
+        NotRead,
+        Resource,
+        Unread,
+        jpeg_blocks,
+        jpeg_parts,
+        jpeg_same,
+        jpeg_same_blocks,
+        jpeg_unread,
+        jpeg_xmp,
+        photoshop_resources,
+    )
+    from ._library import Status
+    from ._properties import XmpContainer, XmpProperty, XmpResource, XmpStructure, XmpText, XmpValue
+    from ._reading import fields
+    from ._xmp import xmp_normal, xmp_properties
 
 __all__ = [
     "BlockCaption",
@@ -77,3 +80,15 @@ __all__ = [
     "xmp_normal",
     "xmp_properties",
 ]
+
+_MODULES = "_errors _fields _library _calls _reading _captions _jpeg _properties _xmp".split()  # each after those whose names it takes
+
+if not TYPE_CHECKING:  # a type checker would take any name for one of these
+
+    def _module_of(name):
+        """The module that defines a name."""
+        from importlib import import_module
+
+        return next(it for it in (f"exifnorm.{one}" for one in _MODULES) if hasattr(import_module(it), name))
+
+    __getattr__, __dir__ = late(globals(), _module_of)

@@ -12,6 +12,8 @@
 A refused block raises nothing: see `Picture.refusals`.
 """
 
+from ._late import late
+
 TYPE_CHECKING = False  # that of `typing`, which takes long to import
 if TYPE_CHECKING:
     from exifnorm_pictures.api import Comparison, Difference, NoPicture, NotReadable, Reader, compare, read, read_bytes
@@ -52,20 +54,4 @@ _MODULES = {  # where a name is, if not in api
 }
 
 if not TYPE_CHECKING:  # a type checker would take any name for one of these
-
-    def __getattr__(name):
-        """What a program asks for is imported then: a program that reads blocks alone need not wait for it."""
-        if name not in __all__:
-            raise AttributeError(f"module {__name__!r} has no attribute {name!r}")
-        from importlib import import_module
-
-        found = globals()[name] = getattr(import_module(f"exifnorm_pictures.{_MODULES.get(name, 'api')}"), name)
-        if name == "Caption":  # commands import its module without this package, which takes long
-            from ._words import documented
-
-            documented(found)
-        return found
-
-
-def __dir__() -> "list[str]":
-    return sorted([*__all__, *(name for name in globals() if name.startswith("_"))])
+    __getattr__, __dir__ = late(globals(), lambda name: f"exifnorm_pictures.{_MODULES.get(name, 'api')}")

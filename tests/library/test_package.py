@@ -488,28 +488,35 @@ def test_examples(module):
 
 
 def test_public_names_are_exported():
-    public = {name for name, it in vars(blocks).items() if not name.startswith("_") and not hasattr(it, "__path__")}
-    assert public == {*blocks.__all__}
     assert not {*blocks.__all__} & {*pictures.__all__}, "a name has two meanings"
     for module in (blocks, pictures):
         assert all(getattr(exifnorm, name) is getattr(module, name) for name in module.__all__)
-    assert {*exifnorm.__all__} <= {*dir(exifnorm)}
-    for module in (exifnorm, pictures):
-        with pytest.raises(AttributeError, match="nothing"):
+    for module in (exifnorm, blocks, pictures):
+        assert [name for name in dir(module) if not name.startswith("_")] == sorted(module.__all__)
+        assert {*module.__all__} <= {*vars(module)}, "a name is looked for once"
+        with pytest.raises(AttributeError, match=f"^module '{module.__name__}' has no attribute 'nothing'$"):
             module.nothing
+
+
+def fresh(code):
+    """What a new process prints."""
+    environment = dict(os.environ, PYTHONPATH=os.pathsep.join(sys.path))
+    return subprocess.run([sys.executable, "-S", "-c", code], stdout=subprocess.PIPE, text=True, check=True, env=environment).stdout
+
+
+def test_a_program_waits_for_no_more_than_it_needs():
+    """An import alone loads none of Python's modules, and a call for blocks none of those for pictures."""
+    loaded = "import sys; own = {*sys.modules}; import exifnorm; %s; print(*{*sys.modules} - own)"
+    assert not [it for it in fresh(loaded % "0").split() if not it.startswith("exifnorm") or it == "exifnorm._calls"]
+    assert not [it for it in fresh(loaded % "exifnorm.LIMIT").split() if it == "ctypes"]
+    assert "exifnorm._calls" in fresh(loaded % "exifnorm.kind").split()
 
 
 def test_blocks_need_nothing_of_pictures():
     code = (
         "import sys, exifnorm; exifnorm.kind(b'\\x1c\\x02\\x78\\0\\4Vase'); print([it for it in sys.modules if 'exifnorm_pictures' in it])"
     )
-    words = [sys.executable, "-c", code]
-    assert (
-        subprocess.run(
-            words, stdout=subprocess.PIPE, text=True, check=True, env=dict(os.environ, PYTHONPATH=os.pathsep.join(sys.path))
-        ).stdout
-        == "[]\n"
-    )
+    assert fresh(code) == "[]\n"
 
 
 def test_version(version):
