@@ -7,6 +7,7 @@ import sys
 from collections import Counter
 
 import made_files as made
+import pytest
 from studio import WithPictures, needs, read, run, write
 
 from exifnorm_pictures.catalogue.store import Catalogue
@@ -14,12 +15,9 @@ from exifnorm_pictures.model.found import EXIF
 from exifnorm_pictures.model.records import BlockRecord, PictureRecord, Stamp
 
 EXV = b"\xff\x01Exiv2\xff\xd9"  # exiv2's own format, which has no reader here and goes to ExifTool
-GROWTH = 8  # MB by which ten times as many pictures may need more: SQLite's caches (2 MB each) and Python's own memory, no list of all
-MORE_GROWTH = 12  # where SQLite also sorts, and keeps what moved and what is equal
 
 # Runs the command and counts what it does, also in its further processes: a line of the file COUNTED for each thing. The last lines
-# are the rows that this process fetched, hundreds of steps of SQLite's virtual machine in it, and the peak of its memory in kB, which
-# the system counts again for each program (that of getrusage is inherited).
+# are the rows that this process fetched, and hundreds of steps of SQLite's virtual machine in it.
 COUNTING = """
 import os, sqlite3, sys
 counted = os.open(os.environ["COUNTED"], os.O_WRONLY | os.O_CREAT | os.O_APPEND)
@@ -65,8 +63,6 @@ from exifnorm_pictures.cli.main import main
 status = main(sys.argv[1:])
 for it in totals.items():
     note("%s %d" % it)
-with open("/proc/self/status") as file:
-    note("memory " + next(it.split()[1] for it in file if it.startswith("VmHWM")))
 sys.exit(status)
 """
 
@@ -94,18 +90,52 @@ def many_rows(base, count, says, folder, mark, name, is_hashed=False):
     base.execute("DELETE FROM pictures WHERE id = (SELECT min(id) FROM pictures)")
 
 
+def made_catalogue(path, count, says="n / 20", folder="one", mark=0, named="n", is_hashed=False):
+    """A catalogue with this many pictures, each with a number as its meaning; all is SQL over the number n of a picture."""
+    with Catalogue(str(path), make=True) as made_:
+        block = BlockRecord(EXIF, "Exif", "APP1 at 2", "own", "accepted", "0" * 64, None, None, 100, "0" * 64)
+        one = PictureRecord.of(b"/archive", b"/archive", Stamp(1000, 0, 0, 0), "JPEG", "own", blocks=(block,))
+        made_.put(made_.begin_run("2000-01-01T00:00:00Z"), [one])
+        many_rows(made_.base, count, says, folder, mark, named, is_hashed)
+
+
+# Commands on catalogues, how many pictures these have, what they say, how those of D differ, what is printed of ten times as many, and the
+# bytes that all of those may take more: SQLite's caches and Python's own memory, no list of all; what moved and what is equal is kept
+MOVED, DIFFERENT = {"folder": "other"}, {"says": "n + 1000000", "mark": 1}
+MEMORY = [
+    ("same C --no-look", 20_000, "n / 20", {}, r"(?m)^20 pictures: ", 4_000_000),
+    ("same C --no-look", 12_000, "1", {}, "pictures: ", 108_000 * 700),
+    ("same C --no-look --json", 12_000, "1", {}, '"count": 120000', 108_000 * 700),
+    ("catalogue export --no-look C tables", 2000, "n / 20", {}, "", 8_000_000),
+    ("changed D C", 1200, "n", MOVED, "12,000 moved: ", 13_000_000),
+    ("changed D C", 600, "n", DIFFERENT, "6,000 different: ", 8_000_000),
+    ("changed D C --each", 600, "n", DIFFERENT, "6000 different", 8_000_000),
+    ("report C --since D --no-look --html report/", 2000, "n / 20", DIFFERENT, "", 12_000_000),
+]
+
+
+@pytest.mark.parametrize("words, few, says, other, printed, most", MEMORY)
+def test_memory(words, few, says, other, printed, most, counting, folder):
+    """Of ten times as many pictures. Those of one group are in memory, with at most 700 bytes each."""
+    taken = []
+    for count in (few, 10 * few):
+        (folder / str(count)).mkdir()
+        made_catalogue(folder / str(count) / "C", count, says)
+        made_catalogue(folder / str(count) / "D", count, **{"says": says, **other})
+        work = counting.run(folder / str(count), *words.split())
+        assert work.status in (0, 1), work.err
+        taken.append(work.memory)
+    assert re.search(printed, work.out.decode())
+    assert taken[1] - taken[0] <= most, taken
+
+
 class Scale(WithPictures):
-    def catalogue(self, name, count, says="n / 20", folder="one", mark=0, named="n", is_hashed=False):
-        """A catalogue with this many pictures, each with a number as its meaning; all is SQL over the number n of a picture."""
-        with Catalogue(self.path(name), make=True) as made_:
-            block = BlockRecord(EXIF, "Exif", "APP1 at 2", "own", "accepted", "0" * 64, None, None, 100, "0" * 64)
-            one = PictureRecord.of(b"/archive", b"/archive", Stamp(1000, 0, 0, 0), "JPEG", "own", blocks=(block,))
-            made_.put(made_.begin_run("2000-01-01T00:00:00Z"), [one])
-            many_rows(made_.base, count, says, folder, mark, named, is_hashed)
+    def catalogue(self, name, count, *words, **more):
+        made_catalogue(self.path(name), count, *words, **more)
         return name
 
     def counted(self, *words, status=0):
-        """What a command does: how often, and `memory` in MB."""
+        """What a command does: how often."""
         where = self.path("counted")
         if os.path.exists(where):
             os.remove(where)
@@ -114,9 +144,8 @@ class Scale(WithPictures):
         self.said = done.stdout.decode()
         with open(where) as file:
             lines = file.read().splitlines()
-        counts = Counter(it for it in lines[:-3])
-        counts.update({name: int(number) for name, number in map(str.split, lines[-3:])})
-        counts["memory"] /= 1024
+        counts = Counter(it for it in lines[:-2])
+        counts.update({name: int(number) for name, number in map(str.split, lines[-2:])})
         return counts
 
     def pictures(self, folder, count, ending=".jpg"):
@@ -126,47 +155,6 @@ class Scale(WithPictures):
             octets = EXV if ending == ".exv" else made.jpeg(made.app1(made.exif(b"%03d" % number)), made.app1_xmp(made.title(str(number))))
             write(self.path(folder, f"{number:04}{ending}"), octets)
 
-    # Memory
-
-    def grows_little(self, few, many, most=GROWTH):
-        self.assertLess(many["memory"] - few["memory"], most, f"{few['memory']:.0f} MB and {many['memory']:.0f} MB")
-
-    def test_memory_of_same(self):
-        few = self.counted("same", self.catalogue("few", 20000), "--no-look")
-        many = self.counted("same", self.catalogue("many", 200000), "--no-look")
-        self.assertEqual(self.said.count("20 pictures: "), 10000)
-        self.grows_little(few, many)
-
-    def test_memory_of_same_in_one_group(self):
-        """The pictures of a group are in memory, with at most 700 bytes each."""
-        few, many = self.catalogue("few", 20000, "1"), self.catalogue("many", 120000, "1")
-        for words in ((), ("--json",)):
-            less, more = (self.counted("same", it, "--no-look", *words) for it in (few, many))
-            self.grows_little(less, more, 100_000 * 700 / (1 << 20))
-        self.assertEqual([json.loads(it)["count"] for it in self.said.splitlines()[:-1]], [120000])
-
-    def test_memory_of_export(self):
-        costs = [self.counted("catalogue", "export", "--no-look", self.catalogue(f"of{count}", count), "tables") for count in (2000, 20000)]
-        self.grows_little(*costs, MORE_GROWTH)
-
-    def test_memory_of_changed_where_all_moved(self):
-        costs = []
-        for count in (1200, 12000):
-            before = self.catalogue(f"before{count}", count, "n")
-            after = self.catalogue(f"after{count}", count, "n", folder="other")
-            costs.append(self.counted("changed", before, after, status=1))
-            self.assertIn(f"{count:,} moved: ", self.said)
-        self.grows_little(*costs, MORE_GROWTH)
-
-    def test_memory_of_changed_where_all_differ(self):
-        costs = []
-        for count in (600, 6000):
-            before, after = self.catalogue(f"before{count}", count, "n"), self.catalogue(f"after{count}", count, "n + 1000000", mark=1)
-            costs.append([self.counted("changed", before, after, *words, status=1) for words in (["--each"], [])])
-            self.assertIn(f"{count:,} different: ", self.said)
-        for few, many in zip(*costs):
-            self.grows_little(few, many)
-
     def test_report_of_many_pictures(self):
         """All are on its pages, of which one is in memory at a time, and what is read of each is the same."""
         costs = []
@@ -175,7 +163,6 @@ class Scale(WithPictures):
             costs.append(self.counted("report", name, "--since", old, "--no-look", "--html", f"report{count}/"))
             pages = [read(it.path) for it in os.scandir(self.path(f"report{count}")) if it.name.startswith("folders-")]
             self.assertEqual(sum(len(re.findall(rb'<li><a href="(?:file://|\.{1,2}/)', page)) for page in pages), count)
-        self.grows_little(*costs, 16)  # pages of the longer report are full
         for what in ("rows", "statement", "steps"):
             self.assertLess(costs[1][what], 12 * costs[0][what], what)
 
