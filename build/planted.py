@@ -56,6 +56,7 @@ def functions_of(old: bytes, new: bytes, path: str) -> Optional[List[Tuple[Funct
     """The functions of this process that get another code; none if it hasn't imported the module; None if not all that differs is in such."""
     if path not in {getattr(it, "__file__", None) for it in [*sys.modules.values()]}:
         return []
+    gc.unfreeze()  # a command freezes all that is there when it begins, which gc then doesn't name
     found = exchanges(compile(old, path, "exec", dont_inherit=True), compile(new, path, "exec", dont_inherit=True))
     if found is None:
         return None
