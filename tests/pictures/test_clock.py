@@ -1,6 +1,5 @@
 """The clock of a picture ends whatever reads it, and the next picture is read."""
 
-import functools
 import itertools
 import json
 import select
@@ -163,9 +162,7 @@ STAGES = {"shown": "-all#", "free": "-PageName", "written": "=zz", "rebuilt": "-
 def about(names, words):
     if any(b"has no end" in open(name, "rb").read() for name in names) and any(STAGES.get(%r, "") in word for word in words):
         %s
-if "-ver" in sys.argv:
-    print(12.57)
-elif "-stay_open" not in sys.argv:
+if "-stay_open" not in sys.argv:
     about([sys.argv[-1]], [word.replace("-IFD0:", "-") for word in sys.argv])
 else:
     words = []
@@ -183,9 +180,7 @@ else:
 FAKE_EXIV2 = (
     TAKES
     + """
-if "--version" in sys.argv:
-    print("exiv2 0.27.6")
-elif b"has no end" in open(sys.argv[-1], "rb").read():
+if b"has no end" in open(sys.argv[-1], "rb").read():
     hangs()
 """
 )
@@ -231,8 +226,6 @@ def programs_of(folder, monkeypatch, end, stage="", exiv2=""):
             (folder / "bin" / name).write_text(text)
             (folder / "bin" / name).chmod(0o755)
     monkeypatch.setenv("PATH", f"{folder / 'bin'}")
-    # with its own memory of versions, which no other test sees
-    monkeypatch.setattr(programs, "version", functools.lru_cache(programs.version.__wrapped__))
 
 
 def asked(folder, monkeypatch, end, **pictures):

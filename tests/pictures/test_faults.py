@@ -37,7 +37,6 @@ ANSWERS = {
 
 # Reads requests as ExifTool does with -stay_open; the output about a file that is called bad*.exv is the fault.
 FAKE = """#!/bin/sh
-if [ "$3" = -ver ]; then echo 12.57; exit; fi
 name=
 while read -r line; do
     case "$line" in
@@ -97,7 +96,7 @@ class Tools(WithPictures):
         put(self.folder, {name: b"II*\0\x08\0\0\0\0\0\0\0\0\0" for name in ("a.nrw", "bad.nrw")})
         for fault in ("exit 3", "kill -9 $$", 'echo garbage > "$4/picture.exv"', 'mkdir "$4/picture.exv"', "true"):
             with self.subTest(fault):
-                text = f'#!/bin/sh\n[ "$1" = --version ] && echo exiv2 0.27.6 && exit\n{fault}\n'
+                text = f"#!/bin/sh\n{fault}\n"
                 lines = self.asked(
                     "index", "a.nrw", "bad.nrw", "--catalogue", "c", "--again", "--quiet", "--json", status=2, **self.fake("exiv2", text)
                 )
@@ -113,15 +112,13 @@ class Tools(WithPictures):
         os.remove(self.path("it_was_read"))  # ExifTool by itself reads it
         self.asked("index", "a.exv", "--catalogue", "c", "--quiet", **homes)
         self.assertFalse(os.path.exists(self.path("it_was_read")))
-        run_ = sqlite3.connect(self.path("c")).execute("SELECT exiftool FROM runs").fetchone()[0]
-        self.assertRegex(run_, r"^\d+\.\d+$")
 
     def test_no_program_and_no_folder_is_left_behind(self):
         self.pictures()
         own = self.path("own")
         os.mkdir(own)
         pids = self.path("pids")
-        environment = self.fake("exiftool", f'#!/bin/sh\n[ "$3" = -ver ] && echo 12.57 && exit\necho $$ >> "{pids}"\nexec sleep 1000\n')
+        environment = self.fake("exiftool", f'#!/bin/sh\necho $$ >> "{pids}"\nexec sleep 1000\n')
         for number in (signal.SIGTERM, signal.SIGHUP, signal.SIGINT, signal.SIGKILL):
             with self.subTest(number.name):
                 write(pids, b"")
@@ -170,7 +167,7 @@ class Tools(WithPictures):
         """What a handler raises in a function that Python calls around a fork is lost, as here, where each fork brings a signal."""
         self.pictures()
         put(self.folder, {f"many/{number}.jpg": SMALL_JPEG for number in range(70)})
-        sleeping = self.fake("exiftool", '#!/bin/sh\n[ "$3" = -ver ] && echo 12.57 && exit\nexec sleep 1000\n')
+        sleeping = self.fake("exiftool", "#!/bin/sh\nexec sleep 1000\n")
         call = (
             "import os, sys; from exifnorm_pictures.cli.main import main\n"
             "os.register_at_fork(after_in_parent=lambda: os.kill(os.getpid(), int(sys.argv[1])))\n"

@@ -178,7 +178,7 @@ def test_an_old_catalogue_is_from_before_a_run_that_was_stopped(folder, called, 
     put(folder, {"p/a.jpg": OTHER, "p/b.jpg": OTHER})
     with monkeypatch.context() as stopped:
         stopped.setattr(index, "BATCH", 1)
-        stopped.setattr(index._Looking, "keep_versions", mock.Mock(side_effect=KeyboardInterrupt))  # which follows the first commit
+        stopped.setattr(index._Looking, "count", mock.Mock(side_effect=KeyboardInterrupt))  # which follows the first commit
         assert called(*run)[0] == 130
     status, printed, notes = called(*run)
     assert (status, printed) == (0, "1 accepted, 1 unchanged\n") and "old stays as it was" in notes

@@ -137,7 +137,7 @@ def test_other_errors_stay_what_they_are(tmp_path, guard, error):
 @pytest.mark.parametrize(
     "values",
     [
-        "runs SET exiftool = x'00'",
+        "runs SET exifnorm = x'00'",
         "runs SET started = x'00'",
         "not_read SET what = x'00'",
         "blocks SET kind = 'other'",

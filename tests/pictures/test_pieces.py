@@ -172,23 +172,3 @@ class Sessions(WithPictures):
             self.assertEqual((counts(), own.tool), ((2, 2), None))
             own.close_tool()
             self.assertEqual(counts(), (2, 2))
-
-    def test_versions(self):
-        for program, printed, expected in (
-            ("exiftool", b"12.57\n", "12.57"),
-            ("exiv2", b"exiv2 0.27.6\nmore 1\n", "0.27.6"),
-            ("exiv2", b"", None),
-            ("exiv2", b"\n1\n", None),
-            ("exiv2", b"a \xff\n", "\ufffd"),
-        ):
-            calls = []
-            with mock.patch.multiple(
-                programs,
-                is_there=lambda _: True,
-                needed=lambda it: it,
-                run=lambda words, _: calls.append(words) or programs.Done(0, printed),
-            ):
-                self.assertEqual(programs.version.__wrapped__(program, 60.0), expected)
-            self.assertEqual(calls, [["exiftool", "-config", "", "-ver"] if program == "exiftool" else ["exiv2", "--version"]])
-        with mock.patch.object(programs, "is_there", lambda _: False):
-            self.assertIsNone(programs.version.__wrapped__("exiv2", 60.0))

@@ -16,6 +16,7 @@ from studio import SMALL_JPEG, needs, put, tool
 
 from exifnorm_pictures.extract import exiftool, programs
 from exifnorm_pictures.files import session
+from exifnorm_pictures.model.found import Blocks
 from exifnorm_pictures.report import shrinking, small_pictures
 
 Image = pytest.importorskip("PIL.Image")
@@ -373,7 +374,7 @@ def test_a_heic_that_is_damaged_or_slow_costs_its_tile(tmp_path: Path, monkeypat
 
 STARTED = {
     "exiftool": lambda ours: exiftool.ask(ours, b"a.heic", ()),
-    "exiv2": lambda _: programs.version.__wrapped__("exiv2", 60.0),
+    "exiv2": lambda ours: exiftool._add_by_exiv2(ours, Blocks(type="NRW"), b"a.heic"),
     "heif-convert": lambda ours: small_pictures.as_jpeg(b"a.heic", ours),
 }
 

@@ -67,7 +67,7 @@ class WithCluster(WithPictures):
         """An ExifTool that kills the worker that calls it, if the condition is true."""
         os.mkdir(self.path("bin"))
         real = shutil.which("exiftool")
-        text = f'#!/bin/sh\n[ "$3" = -ver ] && exec {real} "$@"\nif {condition}; then kill -9 $PPID; exit; fi\nexec {real} "$@"\n'
+        text = f'#!/bin/sh\nif {condition}; then kill -9 $PPID; exit; fi\nexec {real} "$@"\n'
         write(self.path("bin", "exiftool"), text.encode())
         os.chmod(self.path("bin", "exiftool"), 0o755)
         return self.path("bin") + os.pathsep + Studio.environment()["PATH"]

@@ -34,7 +34,7 @@ from .store import (
 )
 
 
-_RUNS = "INSERT INTO main.runs SELECT id + ?, started, ended, exifnorm, exiftool, exiv2, sidecars, whole FROM other.runs"
+_RUNS = "INSERT INTO main.runs SELECT id + ?, started, ended, exifnorm, sidecars, whole FROM other.runs"
 
 
 # Looks at a catalogue that is attached, before its pictures are added: the one that is written, the name under which it is attached, the names

@@ -33,7 +33,7 @@ from ..model.records import BLOCKS, PICTURES, BlockRecord, PictureRecord, Stamp,
 from ..model.sides import Status
 
 APPLICATION = 0x45584E50  # 'EXNP', which distinguishes a catalogue from other SQLite files
-VERSION = 11
+VERSION = 12
 CACHE = 32_000  # kB of a catalogue that is written to: digests go into its index in no order
 PATIENCE = 200  # milliseconds that closing waits for other programs; while they read, the write-ahead log stays
 WAIT = 10  # seconds for other processes that set the journal's mode
@@ -78,8 +78,6 @@ CREATE TABLE runs (
     started TEXT NOT NULL,          -- UTC
     ended TEXT,                     -- missing where the run was stopped
     exifnorm TEXT,                  -- the version of the library that made the digests; it ends with -unproved if that was not proved
-    exiftool TEXT,                  -- versions of the programs that have read a picture
-    exiv2 TEXT,
     sidecars INTEGER NOT NULL,      -- 1: XMP files beside pictures are blocks of them
     whole INTEGER NOT NULL          -- 1: every byte of a JPEG is read
 );
@@ -144,8 +142,8 @@ _ROWS = (
     "CREATE TABLE maker_notes (picture, readings)",
 )
 
-# when it began and ended, the library's version, ExifTool's, exiv2's
-Run = tuple[str, Optional[str], Optional[str], Optional[str], Optional[str]]
+# when it began and ended, and the library's version
+Run = tuple[str, Optional[str], Optional[str]]
 Made = TypeVar("Made")
 
 
@@ -567,10 +565,10 @@ class Catalogue:
         """Whether it has digests of coded pictures, as of `index --pixels`."""
         return bool(self.number_of("SELECT EXISTS (SELECT 1 FROM pictures WHERE coded_picture != '')"))
 
-    def set_versions(self, run: int, exifnorm: str, exiftool: str | None, exiv2: str | None) -> None:
-        """Keeps which library makes the digests of a run, and which programs have read a picture."""
+    def set_version(self, run: int, exifnorm: str) -> None:
+        """Keeps which library makes the digests of a run."""
         with self.guarded():
-            self.base.execute("UPDATE runs SET exifnorm = ?, exiftool = ?, exiv2 = ? WHERE id = ?", (exifnorm, exiftool, exiv2, run))
+            self.base.execute("UPDATE runs SET exifnorm = ? WHERE id = ?", (exifnorm, run))
 
     def end_run(self, run: int, ended: str) -> None:
         """Records that a run is complete."""
@@ -720,7 +718,7 @@ class Catalogue:
 
     def runs(self) -> list[Run]:
         """Each run, the first one first."""
-        return list(self.rows("SELECT started, ended, exifnorm, exiftool, exiv2 FROM runs ORDER BY id", (), _run_of_row))
+        return list(self.rows("SELECT started, ended, exifnorm FROM runs ORDER BY id", (), _run_of_row))
 
     def known(self, path: bytes) -> Known | None:
         """The record of one picture."""

@@ -26,8 +26,7 @@ from .formats.streams import Stream, digest_of, size_of
 from .programs import Failed, TooSlow
 
 _WORDS_LENGTH = 1000  # characters that are kept of a type or an error
-_VERSION = "ExifToolVersion"
-_WORDS = ("-EXIF:Exif", "-IPTC:IPTC", "-XMP:XMP", "-FileType#", "-MIMEType#", "-Error#", f"-ExifTool:{_VERSION}#")
+_WORDS = ("-EXIF:Exif", "-IPTC:IPTC", "-XMP:XMP", "-FileType#", "-MIMEType#", "-Error#")
 _TAGS = {"EXIF": EXIF, "IPTC": IPTC, "XMP": XMP}
 _SEVERAL = ("CR3", "CRX", "CRM")  # Canon's, by ExifTool's names
 
@@ -123,10 +122,7 @@ def _process(session: Session) -> Process:
 
 def ask(session: Session, path: bytes, words: Sequence[str]) -> dict[str, str]:
     """ExifTool's tags of one file. If it fails, a new ExifTool reads the next file."""
-    answer = ask_several(session, [path], words)[0]
-    for version in values(answer, _VERSION):
-        programs.learn({programs.needed("exiftool"): version})
-    return answer
+    return ask_several(session, [path], words)[0]
 
 
 def ask_several(session: Session, paths: Sequence[bytes], words: Sequence[str], options: Sequence[str] = _OPTIONS) -> list[dict[str, str]]:

@@ -7,14 +7,13 @@ from __future__ import annotations
 
 import contextlib
 import ctypes
-import functools
 import os
 import re
 import select
 import shutil
 import signal
 import time
-from typing import TYPE_CHECKING, Callable, Mapping, NamedTuple
+from typing import TYPE_CHECKING, Callable, NamedTuple
 
 from ..files import signals
 from ..model.budgets import OUTPUT, PROGRAM_BYTES
@@ -84,31 +83,6 @@ def _path_of(program: str) -> str | None:
 def exiftool(*words: str) -> list[str]:
     """The arguments of a call of ExifTool that reads no configuration file. `-config` only counts as the first option."""
     return [needed("exiftool"), "-config", "", *words]
-
-
-_told: dict[str, str] = {}  # the versions that programs have told with an answer, by their paths
-
-
-def told() -> dict[str, str]:
-    """The versions that programs have told in this process, by their paths."""
-    return dict(_told)
-
-
-def learn(versions: Mapping[str, str]) -> None:
-    """Keeps versions that programs have told, here or in another process: to ask ExifTool by itself takes as long as to look at a hundred pictures."""
-    _told.update(versions)
-
-
-@functools.lru_cache(maxsize=None)
-def version(program: str, seconds: float) -> str | None:
-    """The version that a program has told or prints, or nothing if it isn't installed. Raises `Failed` if it prints none."""
-    if not is_there(program):
-        return None
-    if known := _told.get(needed(program)):
-        return known
-    words = exiftool("-ver") if program == "exiftool" else [needed(program), "--version"]
-    output = run(words, seconds).stdout[:1000].decode("ascii", "replace").split("\n", 1)[0]
-    return output.rpartition(" ")[2].strip() or None
 
 
 def run(words: list[str], seconds: float, folder: str | None = None) -> Done:

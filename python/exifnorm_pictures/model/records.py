@@ -11,7 +11,7 @@ from typing import Annotated, Any, NamedTuple, Optional, Sequence
 
 from .budgets import ROW_BYTES
 from .columns import LONGEST, Columns, Damaged, Is, check
-from .found import EXIF, EXIFTOOL, KINDS, PROGRAMS, XMP, Blocks, NotRead, cut, not_known
+from .found import EXIF, KINDS, XMP, Blocks, NotRead, cut, not_known
 from .steps import Step, loses, unpacked
 from .texts import Members
 from .sides import REACHED, Side, Status, of_all, side_of
@@ -221,12 +221,6 @@ class PictureRecord(NamedTuple):
         """The same picture with other marks."""
         marks: dict[str, Any] = dict(zip(Stamp._fields, stamp or _NO_STAMP))
         return self._replace(**marks)
-
-    @property
-    def programs(self) -> set[str]:
-        """The other programs that have read something of it, if it was looked at just now."""
-        names = {self.extractor, *[block.extractor for block in self.blocks]}
-        return names & PROGRAMS.keys() | ({EXIFTOOL} if self.notes else set())
 
     @property
     def not_known(self) -> list[str]:

@@ -158,7 +158,7 @@ class Renderer:
         self._html = Markup
         self.small_pictures = SmallPictures([one for one in (about.catalogue, about.old) if one], kept, about.session)
         self._look, self._kept = about.look, kept
-        roots, runs = about.catalogue.roots(), about.catalogue.runs()
+        roots = about.catalogue.roots()
         filters = {
             "address": Links(about.link_to, roots, about.beside, about.up).of,
             "below": lambda path: below(path, roots),
@@ -172,8 +172,7 @@ class Renderer:
             "title": about.title,
             "now": datetime.now().astimezone().strftime("%Y-%m-%d %H:%M"),
             "roots": roots,
-            "runs": runs,
-            "unproved": unproved(runs),
+            "unproved": unproved(about.catalogue.runs()),
             "standards": STANDARDS,
             "absent": NOT_THERE,
             "style": self._html(style),

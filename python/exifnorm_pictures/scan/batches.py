@@ -6,10 +6,9 @@ from __future__ import annotations
 import contextlib
 import sqlite3
 from collections import Counter
-from typing import Callable, Mapping, NamedTuple, Sequence, Union
+from typing import Callable, NamedTuple, Sequence, Union
 
 from ..catalogue.store import make_rows, put_rows
-from ..extract import programs
 from ..files.session import processors
 from ..model.budgets import PROGRAM_SECONDS
 from ..model.problems import NO_BYTES
@@ -47,10 +46,8 @@ class Batch(NamedTuple):
     file: str  # with their rows
     states: "Counter[str]"  # how many have each state
     lines: list[str]
-    programs: set[str]  # the other programs that have read something of them
     unread: list[PictureRecord]  # which have no row: if they were known before, their earlier results stay
     left: Sequence[FoundFile]  # the pictures after them, which were not looked at yet
-    versions: Mapping[str, str]  # that other programs have told, by their paths
 
 
 Result = Union[PictureRecord, Batch]
@@ -65,5 +62,4 @@ def batch(file: str, entries: Sequence[PictureRecord], left: Sequence[FoundFile]
         put_rows(base, 0, 1, [it for it in entries if it.problem not in NO_BYTES])
         base.execute("COMMIT")
     printed = [line for it in entries for line in lines(it)] if lines else []
-    used: set[str] = set().union(*(it.programs for it in entries))
-    return Batch(file, Counter(it.state for it in entries), printed, used, unread, left, programs.told())
+    return Batch(file, Counter(it.state for it in entries), printed, unread, left)

@@ -18,7 +18,7 @@ from ..catalogue.store import Catalogue, Known
 from ..extract import programs
 from ..extract.sidecars import marks
 from ..model import budgets
-from ..model.found import EXIFTOOL, EXIV2, UNREAD_TRAILER
+from ..model.found import UNREAD_TRAILER
 from ..model.numbers import Numbers
 from ..model.problems import AGAIN, GONE, NEEDED, Problem
 from ..model.records import RACY, PictureRecord, is_as_before
@@ -278,13 +278,6 @@ def _named_wrong(work: Work, catalogue: Catalogue) -> Iterator[PictureRecord]:
         yield PictureRecord.of(unlisted.path, b"", problem=Problem.UNREADABLE, detail=unlisted.reason + kept)
 
 
-def _version(program: str, seconds: float) -> str | None:
-    try:
-        return programs.version(program, seconds)
-    except programs.Failed as error:
-        return str(error)
-
-
 class _Looking:
     """Looks at pictures and commits the results in batches, each before it is reported."""
 
@@ -292,8 +285,6 @@ class _Looking:
         self.options, self.catalogue, self.run, self.work = (options, catalogue, run, work)
         self.progress = Progress(0, quiet=options.quiet)
         self.ready: list[Result] = []
-        self.version = ""  # of the library
-        self.versions: dict[str, str | None] = {}  # of the other programs that have read a picture
         self.files = 0  # of batches that are ready
         self.pictures = self.size = 0  # that are ready, and their bytes
         self.done = 0
@@ -320,8 +311,7 @@ class _Looking:
         gc.set_threshold(GARBAGE)
         import exifnorm
 
-        self.version = exifnorm.version()
-        self.catalogue.set_versions(self.run, self.version, None, None)
+        self.catalogue.set_version(self.run, exifnorm.version())
 
     def _look(self, files: Iterable[FoundFile]) -> None:
         """Looks at pictures, and commits each result."""
@@ -346,7 +336,6 @@ class _Looking:
         batches = [it for it in self.ready if isinstance(it, Batch)]
         entries = [one for it in self.ready for one in (it.unread if isinstance(it, Batch) else (it,))]
         self.catalogue.put(self.run, entries, [it.file for it in batches])
-        self.keep_versions({program for it in self.ready for program in it.programs})
         for result in self.ready:
             if isinstance(result, Batch):
                 self.work.counts += result.states
@@ -359,13 +348,6 @@ class _Looking:
         self.pictures = self.size = self.files = 0
         self.last = time.monotonic()
         self.progress.done(self.done)
-
-    def keep_versions(self, programs: set[str]) -> None:
-        """Keeps the versions of programs that have read a picture."""
-        new = programs - self.versions.keys()
-        if new:
-            self.versions.update({it: _version(it, self.options.how.seconds) for it in new})
-            self.catalogue.set_versions(self.run, self.version, self.versions.get(EXIFTOOL), self.versions.get(EXIV2))
 
     def count(self, picture: PictureRecord, lines: Lines | None) -> None:
         """Counts and reports a picture."""

@@ -15,7 +15,7 @@ from concurrent.futures import Future, ProcessPoolExecutor, wait
 from concurrent.futures.process import BrokenProcessPool
 from contextvars import ContextVar
 from multiprocessing import util
-from typing import Iterable, Iterator, Mapping, NamedTuple, Sequence
+from typing import Iterable, Iterator, NamedTuple, Sequence
 
 from ..extract import programs
 from ..files import signals
@@ -45,7 +45,6 @@ class Few(NamedTuple):
 
     entries: Sequence[PictureRecord]
     left: Sequence[FoundFile]  # the pictures after them, which were not looked at yet
-    versions: Mapping[str, str]  # that other programs have told, by their paths
 
 
 class Task(NamedTuple):
@@ -114,7 +113,7 @@ def look_at_some(task: Task, how: How) -> Batch | Few:
             break
     left = task.chunk[len(entries) :]
     if len(entries) < SHORT and size < READY_BYTES:
-        return Few(entries, left, programs.told())
+        return Few(entries, left)
     return batch(task.file, entries, left, how.lines)
 
 
@@ -159,7 +158,6 @@ def _by_processes(chunks: Iterator[Sequence[FoundFile]], how: How, files: Iterat
                     return
             result = waiting[0].result()
             waiting.popleft()
-            programs.learn(result.versions)
             unfinished[:1] = [Task(result.left, next(files))] if result.left else []
             if isinstance(result, Few):
                 yield from result.entries
