@@ -231,15 +231,15 @@ class Scale(WithPictures):
             "refusals.repairs",
             "report.rendering",
         )
-        watched = {"exifnorm", "html", "jinja2", "logging", "multiprocessing", "subprocess", "urllib", "xml", *reading, *fields}
+        watched = {"exifnorm._library", "html", "jinja2", "logging", "multiprocessing", "subprocess", "urllib", "xml", *reading, *fields}
         watched.update(f"exifnorm_pictures.{it}" for it in names)
         for words, needed in (
             (["same", "c"], {*fields, "exifnorm_pictures.comparison.same.groups"}),
             (["index", "p", "--catalogue", "c", "--quiet"], set()),
-            (["index", "p", "--catalogue", "e", "--quiet"], {"exifnorm", "xml", *reading}),
+            (["index", "p", "--catalogue", "e", "--quiet"], {"exifnorm._library", "xml", *reading}),
             (["catalogue", "merge", "c", "--catalogue", "d"], set()),
             (["changed", "c", "c"], {*fields, "exifnorm_pictures.comparison.changed.states"}),
-            (["show", "p/0000.jpg"], {"exifnorm", "xml", reading[0], "exifnorm_pictures.judge.repairs"}),
+            (["show", "p/0000.jpg"], {"exifnorm._library", "xml", reading[0], "exifnorm_pictures.judge.repairs"}),
         ):
             with self.subTest(words[0]):
                 done = run([sys.executable, "-S", "-c", call, *words], self.folder)
