@@ -1,11 +1,13 @@
 """Makes pictures as users have them, by the tools that they use, and runs commands on them."""
 
 import base64
+import contextlib
 import functools
 import importlib.util
 import os
 import re
 import shutil
+import sqlite3
 import struct
 import subprocess
 import sys
@@ -171,6 +173,12 @@ def without_own_script(page):
 def read(path):
     with open(path, "rb") as file:
         return file.read()
+
+
+def sql_rows(path, query):
+    """What a query says of a SQLite file."""
+    with contextlib.closing(sqlite3.connect(path)) as base:
+        return base.execute(query).fetchall()
 
 
 def tool(folder, *words):

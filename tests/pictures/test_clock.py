@@ -4,14 +4,13 @@ import itertools
 import json
 import select
 import shutil
-import sqlite3
 from types import SimpleNamespace
 
 import pytest
 from growing import FORMATS, IN_EACH_FORMAT, OTHERS
 from made_blocks import segment, with_exif
 from made_files import app1, exif, jpeg
-from studio import SMALL_JPEG, name_of, put
+from studio import SMALL_JPEG, name_of, put, sql_rows
 from test_maker_notes import noted
 from test_repairs import REFUSED
 
@@ -112,8 +111,7 @@ def try_each(called, folder, ended):
             status, out, messages = called(*words.format(file).split())
             assert status in (0, 1, 2) and "internal" not in out + messages, (command, status, out[-500:], messages)
             yield command, len(ended), status
-        with sqlite3.connect("new") as base:
-            assert base.execute("SELECT exif != '' FROM pictures WHERE CAST(path AS TEXT) LIKE '%b.jpg'").fetchall() == [(1,)]
+        assert sql_rows("new", "SELECT exif != '' FROM pictures WHERE CAST(path AS TEXT) LIKE '%b.jpg'") == [(1,)]
 
     return call
 
@@ -137,8 +135,7 @@ def test_pixels_that_never_end(try_each):
     of_pixels = {"changed": READS["changed"] + " --pixels", **{it: READS[it] for it in ("index", "verify", "compare", "nightly")}}
     for command, times, _ in try_each("a.jpg", picture, of_pixels):
         assert times, command
-    with sqlite3.connect("new") as base:
-        assert base.execute("SELECT DISTINCT problem, exif != '' FROM pictures").fetchall() == [(None, 1)]
+    assert sql_rows("new", "SELECT DISTINCT problem, exif != '' FROM pictures") == [(None, 1)]
 
 
 # An ExifTool that has no end at a file with this mark, in each of its calls or at one stage of `mend`. It reads requests as ExifTool does,
@@ -247,8 +244,7 @@ def test_an_exiftool_without_end(end, called, folder, monkeypatch):
     ):
         status, out, messages = called(*words, "--limit", "4")
         assert status == 2 and "internal" not in out + messages, (words, out, messages)
-    with sqlite3.connect("c") as base:
-        found = base.execute("SELECT problem, detail FROM pictures ORDER BY path").fetchall()
+    found = sql_rows("c", "SELECT problem, detail FROM pictures ORDER BY path")
     due = ("ToolFailed", f"exiftool wrote more than {budgets.OUTPUT:,} bytes about one file")
     assert found == [due if end == "long" else ("TooSlow", "exiftool took longer than 4 seconds"), (None, "")]
 
@@ -258,8 +254,7 @@ def test_an_exiv2_without_end(called, folder, monkeypatch):
     programs_of(folder, monkeypatch, "pass", exiv2=FAKE_EXIV2)
     put(folder, {f"{name}.nrw": b"II*\0\x08\0\0\0\0\0\0\0\0\0" + more for name, more in (("a", MARK), ("b", b""))})
     assert called("index", "a.nrw", "b.nrw", "--catalogue", "c", "--quiet", "--jobs", "1", "--limit", "4")[0] == 2
-    with sqlite3.connect("c") as base:
-        (first, detail), (second, _) = base.execute("SELECT problem, detail FROM pictures ORDER BY path")
+    (first, detail), (second, _) = sql_rows("c", "SELECT problem, detail FROM pictures ORDER BY path")
     assert (first, detail, second) == ("TooSlow", "exiv2 took longer than 4 seconds", "ToolFailed")
 
 
@@ -267,8 +262,7 @@ def test_an_exiftool_without_end_at_what_is_read_here(called, folder, monkeypatc
     """It is asked for a trailer's blocks: the picture is read but for these."""
     asked(folder, monkeypatch, WITHOUT_END["silent"], a_jpg=TRAILERS[0], b_jpg=TRAILERS[1])
     called("index", "p", "--catalogue", "c", "--quiet", "--jobs", "1", "--limit", "1")
-    with sqlite3.connect("c") as base:
-        rows = list(base.execute("SELECT path, problem, exif != '', not_read IS NULL FROM pictures ORDER BY path"))
+    rows = sql_rows("c", "SELECT path, problem, exif != '', not_read IS NULL FROM pictures ORDER BY path")
     assert [row[1:3] for row in rows] == [(None, 1), (None, 1)] and rows[0][3], rows
 
 
@@ -280,16 +274,14 @@ def test_an_exiftool_without_end_at_maker_notes(end, called, folder, monkeypatch
     index = ["index", "p", "--catalogue", "c", "--quiet", "--jobs", "1", "--limit", "4", "--maker-notes"]
     assert called(*index)[:2] == (0, "2 accepted\n")
     query = "SELECT problem, exif != '', readings IS NOT NULL, pictures.not_read != '' FROM pictures LEFT JOIN maker_notes ON picture = id ORDER BY path"
-    with sqlite3.connect("c") as base:
-        assert list(base.execute(query)) == [(None, 1, 0, 1), (None, 1, 1, 0)]
+    assert sql_rows("c", query) == [(None, 1, 0, 1), (None, 1, 1, 0)]
     for name, more in (("a", [COMMENT]), ("b", [])):
         (folder / f"{name}.jpg").write_bytes(noted(moved=64, more=more))
         status, printed, messages = called("compare", f"p/{name}.jpg", f"{name}.jpg", "--limit", "1")
         assert status in (1, 2) and "internal" not in printed + messages, printed
     (folder / "bin" / "exiftool").write_text(FAKE % ("", "pass"))
     assert called(*index)[1] == "1 accepted, 1 unchanged\n"
-    with sqlite3.connect("c") as base:
-        assert list(base.execute(query)) == [(None, 1, 1, 0)] * 2
+    assert sql_rows("c", query) == [(None, 1, 1, 0)] * 2
 
 
 def test_all_calls_about_a_picture_have_the_time_of_one(called, folder, monkeypatch):
@@ -298,8 +290,7 @@ def test_all_calls_about_a_picture_have_the_time_of_one(called, folder, monkeypa
     waited, read_until = [], programs.read_until
     monkeypatch.setattr(exiftool.programs, "read_until", lambda *of: (waited.append(of[2]), read_until(*of))[1])
     called("index", "p", "--catalogue", "c", "--quiet", "--jobs", "1", "--limit", "1", "--maker-notes")
-    with sqlite3.connect("c") as base:
-        parts = [it for it, in base.execute("SELECT what FROM not_read")]
+    parts = [it for it, in sql_rows("c", "SELECT what FROM not_read")]
     assert len(waited) > 1 and sum(waited) < 1.5 and {UNREAD_NOTES, UNREAD_TRAILER} <= set(parts), (waited, parts)
 
 
@@ -345,8 +336,7 @@ def test_an_exiftool_that_needs_more_memory(command, called, folder, monkeypatch
     asked(folder, monkeypatch, GREEDY, a_exv=NO_READER + MARK, b_exv=NO_READER)
     status, out, messages = called(*command.split())
     if command.startswith("index"):
-        with sqlite3.connect("c") as base:
-            problems = list(base.execute("SELECT problem, detail FROM pictures ORDER BY path"))
+        problems = sql_rows("c", "SELECT problem, detail FROM pictures ORDER BY path")
     else:
         problems = [(it["problem"], it["detail"]) for it in map(json.loads, out.splitlines()) if "problem" in it]
     (problem, detail), *others = problems

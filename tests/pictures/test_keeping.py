@@ -3,12 +3,11 @@
 import csv
 import json
 import os
-import sqlite3
 
 import pytest
 from made_blocks import ASCII, LONG, segment
 from made_files import app1, app1_xmp, chunk, exif, jpeg, page, png, tiff, turned
-from studio import SMALL_JPEG, put
+from studio import SMALL_JPEG, put, sql_rows
 
 A = exif(b"abc")
 OTHER = SMALL_JPEG.replace(b"\xff\xdb\0\x43\0", b"\xff\xdb\0\x43\1", 1)  # another table of quantization, so another picture
@@ -62,8 +61,7 @@ def test_which_one_stays(name, pixels, folder, called):
     objects = json.loads(called("same", "c", "--json")[1].splitlines()[0])["pictures"]
     assert [it["keep_note"] if it["keep"] is None else it["keep"] for it in objects] == found
     called("catalogue", "export", "c", "t")
-    with sqlite3.connect("t") as base:
-        exported = base.execute("SELECT keep, keep_note FROM groups JOIN pictures ON id = picture ORDER BY path").fetchall()
+    exported = sql_rows("t", "SELECT keep, keep_note FROM groups JOIN pictures ON id = picture ORDER BY path")
     assert [note if keep is None else bool(keep) for keep, note in exported] == found
 
 

@@ -12,7 +12,7 @@ from contextlib import closing
 
 import pytest
 from made_files import app1_xmp, png, png_xmp, title, xmp
-from studio import Studio, put
+from studio import Studio, put, sql_rows
 from test_list import picture
 
 from exifnorm_pictures.catalogue import kept_texts, store
@@ -165,8 +165,7 @@ def test_an_index_costs_nothing_for_questions(folder, called, read):
         texts = ["".join(rng.choice("abcdefghijklmnopqrstuvwxyz ") for _ in range(length)) for _ in range(200)]
         put(folder / f"p{number}", {f"{at}.jpg": picture([("caption", text)], app1_xmp(title(text))) for at, text in enumerate(texts)})
         called("index", f"p{number}", "--catalogue", f"c{number}", "--quiet")
-        with closing(sqlite3.connect(folder / f"c{number}")) as base:
-            assert base.execute("SELECT count(*) FROM texts").fetchone() == (0,)
+        assert sql_rows(folder / f"c{number}", "SELECT count(*) FROM texts")[0] == (0,)
         sizes.append((folder / f"c{number}").stat().st_size)
     assert (sizes[1] - sizes[0]) / 200 < 2 * 400 and read == []
 
@@ -177,8 +176,7 @@ def test_no_picture_gets_the_number_of_another(folder, called):
     called("index", "p", "--catalogue", "c", "--quiet")
     for number in range(3):
         assert asked(called, "--with", "title")[1] == 2
-        with closing(sqlite3.connect(folder / "c")) as base:
-            (last,) = base.execute("SELECT path FROM pictures ORDER BY id DESC LIMIT 1").fetchone()
+        (last,) = sql_rows(folder / "c", "SELECT path FROM pictures ORDER BY id DESC LIMIT 1")[0]
         called("catalogue", "forget", "c", os.fsdecode(last))
         os.remove(last)
         put(folder / "p", {f"c{number}.jpg": picture([("title", f"C{number}")])})
@@ -206,8 +204,7 @@ EXPECTED = [f"p/{number:02}.jpg" for number in range(0, 40, 3)], 40
 
 
 def prepared(catalogue):
-    with closing(sqlite3.connect(catalogue)) as base:
-        return base.execute("SELECT ifnull(max(picture), 0), (SELECT count(*) FROM texts) FROM prepared").fetchone()
+    return sql_rows(catalogue, "SELECT ifnull(max(picture), 0), (SELECT count(*) FROM texts) FROM prepared")[0]
 
 
 def test_while_another_run_writes(catalogue, called, monkeypatch):

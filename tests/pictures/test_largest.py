@@ -8,7 +8,6 @@ import gc
 import itertools
 import json
 import re
-import sqlite3
 
 import pytest
 from growing import FORMATS
@@ -16,7 +15,7 @@ from made_blocks import SHORT
 from made_files import iim, page, resource, tiff, xmp
 from made_more_files import psd
 from largest import FILLINGS, SIZES, made, of_name
-from studio import name_of
+from studio import name_of, sql_rows
 from test_attacks import NO_CLOCK, run_each
 from test_captions import data_set
 
@@ -199,9 +198,8 @@ def test_texts_behind_the_fields_that_are_read(folder, called):
             assert (status, text.count(where)) == (2, 1), (given, more, text[-300:])
     assert called("list", "c", "--without", "title")[0] == 2
     called("catalogue", "export", "c", "tables", "--quiet")
-    with sqlite3.connect(folder / "tables") as base:
-        assert base.execute("SELECT count(*) FROM captions WHERE label = 'caption' AND text IS NULL").fetchone() == (1,)
-        assert not base.execute("SELECT * FROM conflicts").fetchall()
+    assert sql_rows(folder / "tables", "SELECT count(*) FROM captions WHERE label = 'caption' AND text IS NULL")[0] == (1,)
+    assert not sql_rows(folder / "tables", "SELECT * FROM conflicts")
 
 
 def test_texts_that_are_too_many_for_a_catalogue(folder, called):

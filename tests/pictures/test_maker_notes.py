@@ -24,7 +24,7 @@ from exifnorm_pictures.judge.judge import judge_all
 from exifnorm_pictures.model.found import EXIF, Blocks, FoundBlock
 from made_blocks import ASCII, LONG, SHORT as SHORT_, UNDEFINED, block, entry, table
 from made_files import app1, app1_xmp, exif, jpeg, page, tiff, title
-from studio import needs
+from studio import needs, sql_rows
 
 
 def short(text):
@@ -427,13 +427,11 @@ def test_maker_notes_without_exiftool(command, folder, called, monkeypatch):
     status, out, messages = called(*command.split(), "--maker-notes")
     assert status in (0, 1) and messages.count("ExifTool isn't installed") == 1 and "NeedsExifTool" not in out, out + messages
     query = "SELECT count(*), sum(problem IS NULL), sum(not_read != ''), (SELECT count(*) FROM maker_notes) FROM pictures"
-    with sqlite3.connect("c") as base:
-        assert base.execute(query).fetchall() == [(2, 2, 0, 0)]
+    assert sql_rows("c", query) == [(2, 2, 0, 0)]
     assert called("list", "c", "--with", "serial")[0] == 2
     monkeypatch.setenv("PATH", path)
     assert "installed" not in called(*command.split(), "--maker-notes")[2]
-    with sqlite3.connect("c") as base:
-        assert base.execute(query).fetchall() == [(2, 2, 0, 2)]
+    assert sql_rows("c", query) == [(2, 2, 0, 2)]
 
 
 @needs("exiftool")

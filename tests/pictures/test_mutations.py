@@ -14,7 +14,7 @@ import pytest
 from made_blocks import ASCII, SHORT
 from made_files import app1, app1_xmp, app13, chunk, iim, jpeg, page, png, png_xmp, profile, resource, tiff, webp, xmp
 import made_raw
-from studio import Studio, needs, run, write
+from studio import Studio, needs, run, sql_rows, write
 
 from exifnorm_pictures.catalogue.store import Catalogue
 from exifnorm_pictures.comparison.same.group import Basis
@@ -246,10 +246,11 @@ def test_mutated_rows(archive):
     """Values of other types and lengths in each column of each table."""
     values = ["NULL", "x'00'", "''", "-1", "1e300", "9223372036854775807", "'\u202e\x1b'", "zeroblob(1000000)", "'x'"]
     calls = []
-    with sqlite3.connect(archive / "good") as base:
-        columns = [
-            (table, row[1]) for table in ("runs", "pictures", "blocks", "not_read") for row in base.execute(f"PRAGMA table_info({table})")
-        ]
+    columns = [
+        (table, row[1])
+        for table in ("runs", "pictures", "blocks", "not_read")
+        for row in sql_rows(archive / "good", f"PRAGMA table_info({table})")
+    ]
     for number, (table, column) in enumerate(columns):
         for value in values[number % 4 :: 4]:
             name = f"c{len(calls)}"
@@ -301,5 +302,4 @@ def test_settings_of_sqlite(archive):
                     catalogue.base.execute("DELETE FROM pictures")
             if sys.version_info >= (3, 11):
                 assert catalogue.base.getlimit(sqlite3.SQLITE_LIMIT_LENGTH) == budgets.ROW_BYTES
-    with contextlib.closing(sqlite3.connect(archive / "c")) as base:
-        assert base.execute("PRAGMA journal_mode").fetchone() == ("delete",), "a closed catalogue is one file"
+    assert sql_rows(archive / "c", "PRAGMA journal_mode")[0] == ("delete",), "a closed catalogue is one file"

@@ -1,12 +1,11 @@
 """A text with a NUL inside, which ends a text for C and for many functions of SQLite: no output loses what follows it, or has a NUL itself."""
 
-import sqlite3
 import subprocess
 
 import pytest
 from made_blocks import ASCII, block, entry
 from made_files import app1, jpeg
-from studio import needs, put
+from studio import needs, put, sql_rows
 from test_captions import data_set, with_record
 
 LONG = b"x" * 50  # longer than what an index has of a text
@@ -92,16 +91,13 @@ def test_tables_and_pages(archive, called):
     query = "SELECT text FROM captions WHERE label = 'caption' ORDER BY text"
     shown = subprocess.run(["sqlite3", "tables", query], capture_output=True, text=True, check=True).stdout
     assert shown.count("after") == 4
-    with sqlite3.connect("tables") as base:
-        columns = [
-            (table, row[1])
-            for (table,) in base.execute("SELECT name FROM sqlite_master WHERE type = 'table'")
-            for row in base.execute(f"PRAGMA table_info({table})")
-        ]
-        for table, column in columns:
-            assert not base.execute(
-                f"SELECT 1 FROM {table} WHERE instr(CAST({column} AS BLOB), x'00') AND typeof({column}) = 'text'"
-            ).fetchone()
+    columns = [
+        (table, row[1])
+        for (table,) in sql_rows("tables", "SELECT name FROM sqlite_master WHERE type = 'table'")
+        for row in sql_rows("tables", f"PRAGMA table_info({table})")
+    ]
+    for table, column in columns:
+        assert not sql_rows("tables", f"SELECT 1 FROM {table} WHERE instr(CAST({column} AS BLOB), x'00') AND typeof({column}) = 'text'")
     called("report", "c", "--since", "old", "--rules", "rules", "--html", "page.html")
     page = (archive / "page.html").read_bytes()
     assert b"after" in page and b"\0" not in page

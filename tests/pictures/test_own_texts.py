@@ -3,10 +3,10 @@ packages of ExifTool, exiv2, libexif, jhead and Pillow, and of the list of ExifT
 
 import csv
 import json
-import sqlite3
 
 import pytest
 from made_files import app1, app1_xmp, exif, jpeg, xmp
+from studio import sql_rows
 from test_captions import data_set, with_record, with_texts
 
 from exifnorm_pictures.fields.own_texts import is_own
@@ -87,8 +87,7 @@ def test_which_caption_wins(name, folder, called):
     assert ("own text" in called("show", "--captions", "a.jpg")[1]) == bool(own)
     called("index", "a.jpg", "--catalogue", "c", "--quiet")
     called("catalogue", "export", "c", "t")
-    with sqlite3.connect("t") as base:
-        assert [bool(it) for it, in base.execute("SELECT own FROM captions")] == [it["own"] for it in found]
+    assert [bool(it) for it, in sql_rows("t", "SELECT own FROM captions")] == [it["own"] for it in found]
 
 
 def test_the_camera_of_the_file(folder, called):
@@ -98,5 +97,4 @@ def test_the_camera_of_the_file(folder, called):
     assert (row["caption"], row["camera's text"]) == ("", "ABC camera")
     called("index", "a.jpg", "--catalogue", "c", "--quiet")
     called("catalogue", "export", "c", "t")
-    with sqlite3.connect("t") as base:
-        assert base.execute("SELECT text, own FROM captions").fetchall() == [("ABC camera", 1)]
+    assert sql_rows("t", "SELECT text, own FROM captions") == [("ABC camera", 1)]

@@ -1,12 +1,10 @@
 """What docs/exifnorm-pictures.1, README.md and docs/COMPARED.md promise, each by runs of the commands."""
 
-import contextlib
 import hashlib
 import json
 import os
 import re
 import shutil
-import sqlite3
 import sys
 from unittest import mock
 
@@ -15,7 +13,7 @@ from in_process import InProcess
 from made_blocks import ASCII, BLOCKS, LONG, UNDEFINED, segment, with_exif
 from made_files import A, B, K, L, T, T_OTHERWISE, U, XMP_HEAD, turned, xmp
 from made_files import app1, app13, app1_xmp, chunk, extension, jpeg, mpf, page, png, png_xmp, profile, resource, tiff, webp, with_record
-from studio import SMALL_JPEG, errors, needs, put, read, run, write
+from studio import SMALL_JPEG, errors, needs, put, read, run, sql_rows, write
 
 from exifnorm_pictures.cli import looking
 from exifnorm_pictures.scan import index
@@ -51,8 +49,7 @@ class Promises(InProcess):
             write(there, it)
 
     def rows(self, catalogue, query):
-        with contextlib.closing(sqlite3.connect(self.path(catalogue))) as base:
-            return base.execute(query).fetchall()
+        return sql_rows(self.path(catalogue), query)
 
     def names(self, catalogue):
         found = self.rows(catalogue, "SELECT path FROM pictures")

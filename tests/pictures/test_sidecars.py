@@ -13,7 +13,7 @@ import sqlite3
 
 import pytest
 from made_files import A, app1, app1_xmp, jpeg, title, xmp
-from studio import SMALL_JPEG, put, write
+from studio import SMALL_JPEG, put, sql_rows, write
 
 from exifnorm_pictures.extract import sidecars
 from exifnorm_pictures.model.budgets import LIMITS, PACKET_BYTES, XMP_BYTES
@@ -263,9 +263,8 @@ def test_a_picture_with_more_sidecars_than_are_read_is_never_the_same(called, fo
         (folder / f"{''.join(it)}.xmp").write_bytes(ONE)
     status, printed, _ = called("index", ".", "--sidecars", "--catalogue", "c", "--quiet")
     assert status == 0
-    with contextlib.closing(sqlite3.connect(folder / "c")) as base:
-        assert base.execute("SELECT what FROM not_read").fetchall() == [("1 further XMP sidecar",)]
-        assert base.execute("SELECT not_read FROM pictures WHERE CAST(path AS TEXT) LIKE '%abcdefg.jpg'").fetchone() == (None,)
+    assert sql_rows(folder / "c", "SELECT what FROM not_read") == [("1 further XMP sidecar",)]
+    assert sql_rows(folder / "c", "SELECT not_read FROM pictures WHERE CAST(path AS TEXT) LIKE '%abcdefg.jpg'")[0] == (None,)
 
 
 def test_a_picture_whose_title_is_beside_it_is_listed_with_a_note(called, folder):

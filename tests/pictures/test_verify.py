@@ -6,7 +6,6 @@ import json
 import os
 import re
 import shutil
-import sqlite3
 import subprocess
 import sys
 
@@ -15,7 +14,7 @@ from bag_reader import faults_of_bag
 from made_blocks import segment
 from made_files import A, B, app1, jpeg, title
 from made_more_files import gif
-from studio import SMALL_JPEG, Studio, needs, put, run
+from studio import SMALL_JPEG, Studio, needs, put, run, sql_rows
 
 from exifnorm_pictures.catalogue import store
 from exifnorm_pictures.files import opening
@@ -510,8 +509,7 @@ def test_a_hole_of_terabytes(archive, called, verified):
     states = verified()[1]
     assert states["a.jpg"][0] == "can't be read" and "b.jpg" not in states
     assert called("index", "p", "--catalogue", "new", "--pixels", "--quiet")[0] == 0
-    with sqlite3.connect("new") as base:
-        assert base.execute("SELECT count(*) FROM pictures WHERE sha256 = ''").fetchall() == [(2,)]
+    assert sql_rows("new", "SELECT count(*) FROM pictures WHERE sha256 = ''") == [(2,)]
     assert "identical" not in called("compare", "p/a.jpg", "p/e.jpg")[1]
     assert '"keep": false' not in called("same", "new", "--json")[1]
 
