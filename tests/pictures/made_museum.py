@@ -21,6 +21,7 @@ from made_files import (
     chunk,
     extension,
     jpeg,
+    mpf,
     page,
     png,
     png_xmp,
@@ -31,7 +32,8 @@ from made_files import (
     xmp,
 )
 from studio import SMALL_JPEG
-from test_maker_notes import noted
+from test_maker_notes import in_tiff, noted
+from test_parts import JUMBF
 
 UTF8 = b"\x1c\x01\x5a\0\x03\x1b%G"  # IIM 1:90, coded character set
 TABLE = SMALL_JPEG.index(b"\xff\xdb") + 5  # where the values of the quantisation table begin
@@ -400,6 +402,38 @@ def second_night() -> Files:
         "work/pages.tif": tiff(page((0x013B, ASCII, b"Anna\0")), page((0x013B, ASCII, b"Ben S\0"))),
         "work/published.jpg": jpeg(app1(small_tiff(*camera(position(51, 11)))), base=picture(153)),
         "work/retitled.jpg": captioned(155, title="A vase", keywords=["clay", "vase", "salt"]),
+    }
+
+
+def clocked(number: int, date: bytes, time: bytes) -> bytes:
+    """A picture that says in Exif and in IPTC when it was digitized."""
+    there = date[:4] + b":" + date[4:6] + b":" + date[6:] + b" " + time[:2] + b":" + time[2:4] + b":" + time[4:6]
+    block = small_tiff((0x010F, ASCII, b"Leica\0"), (0x8769, LONG, [(0x9004, ASCII, there + b"\0")]))
+    return jpeg(app1(block), with_record(dataset(62, date) + dataset(63, time + b"+0000")), base=picture(number))
+
+
+def before() -> Files:
+    """Pictures that are edited by themselves, and nowhere else in the museum."""
+    block = app1(small_tiff(*camera()))
+    return {
+        "clock.jpg": clocked(200, b"20250331", b"143000"),
+        "credentials.jpg": jpeg(block, segment(0xE4, bytes(60)), segment(0xEB, JUMBF), base=picture(202)),
+        "fault.jpg": jpeg(block, segment(0xEB, JUMBF), base=picture(205)),
+        "index.jpg": mpf(block, jpeg(base=picture(203))),
+        "midnight.jpg": clocked(201, b"20250331", b"233000"),
+        "note.tif": in_tiff(),
+    }
+
+
+def after() -> Files:
+    """The clock an hour later, a cut and a fault in front of credentials, another second picture, a MakerNote that has moved."""
+    return {
+        "clock.jpg": clocked(200, b"20250331", b"153000"),
+        "credentials.jpg": before()["credentials.jpg"][:-60],
+        "fault.jpg": before()["fault.jpg"].replace(b"\xff\xeb", b"\0\xeb"),
+        "index.jpg": mpf(app1(small_tiff(*camera())), jpeg(base=picture(204))),
+        "midnight.jpg": clocked(201, b"20250401", b"003000"),
+        "note.tif": in_tiff(gap=6),
     }
 
 

@@ -15,7 +15,7 @@ from exifnorm_pictures.cli import main
 NOW = datetime.datetime(2026, 1, 3, 4, 5, 6, tzinfo=datetime.timezone.utc)
 CLOCKS = ("report.rendering", "cli.commands.verify", "cli.commands.export", "scan.index")  # the modules that print or keep the time of now
 CATALOGUES = ("before", "plain", "full", "full.before", "few")
-KEPT = ("one", "archive", "bag")
+KEPT = ("one", "archive", "bag", "edits")
 WHOLE = " --pixels --maker-notes --sidecars"
 
 
@@ -91,6 +91,8 @@ def make(folder):
     for name, words in ((".plain", ""), (".full", WHOLE)):
         done(f"index archive --jobs 1 --catalogue {name}{words}", folder)
     done("index one/desk --jobs 1 --pixels --catalogue .few", folder)
+    made_museum.put("edits/before", made_museum.before())
+    made_museum.put("edits/after", made_museum.after(), made_museum.TIME + 86_400)
     put_bag(folder / "bag")
 
 

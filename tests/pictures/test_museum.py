@@ -124,6 +124,8 @@ CALLS = {
         changed before plain --xlsx changed.xlsx
         changed full.before full --undo undo.args --only creator --only title --only caption
         changed one/desk archive/copies --match stem
+        changed edits/before edits/after --jobs 1 --quiet
+        changed edits/before edits/after --jobs 1 --quiet --each
         changed full.before full --edit 2
         changed full.before full --edit 99 --json
         changed --picture archive/work/retitled.jpg full.before full
@@ -148,6 +150,9 @@ CALLS = {
         compare archive/work/gets-cut.jpg one/work/gets-cut.jpg
         compare one/refused/Overlap.jpg one/refused/Unsorted.jpg
         compare one/states/trailer.jpg archive/states/trailer.jpg
+        compare one/contradictions/place.jpg one/contradictions/south.jpg
+        compare edits/before/index.jpg edits/after/index.jpg
+        compare edits/before/note.tif edits/after/note.tif
         compare one/work/retitled.jpg archive/work/retitled.jpg --xlsx compared.xlsx
     """,
     "list": """
@@ -203,6 +208,7 @@ CALLS = {
         show --files-from some
         show --files-from some0 -0 --csv
         show archive/states/*
+        show few
         show archive/rare/* --exact
         show archive/work/retitled.jpg --xlsx shown.xlsx
         show --captions archive/texts/*.jpg archive/contradictions/*.jpg
