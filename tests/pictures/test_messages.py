@@ -11,16 +11,15 @@ import unittest
 from types import SimpleNamespace
 from unittest import mock
 
-from studio import WithPictures, put, read, write
+from studio import WithPictures, put, read
 
-from exifnorm_pictures.catalogue.store import VERSION, Catalogue, NoCatalogue
-from exifnorm_pictures.cli import names, parser
-from exifnorm_pictures.cli.options import Files
+from exifnorm_pictures.catalogue.store import Catalogue
+from exifnorm_pictures.cli import parser
 from exifnorm_pictures.cli.topics import TOPICS
 from exifnorm_pictures.extract import exiftool, programs
 from exifnorm_pictures.files import atomic, signals
 from exifnorm_pictures.model.records import Damaged
-from exifnorm_pictures.scan import progress, walk, workers
+from exifnorm_pictures.scan import progress, workers
 from exifnorm_pictures.scan.batches import How
 
 
@@ -133,18 +132,6 @@ class Progress(unittest.TestCase):
         self.assertRegex(stderr.getvalue(), r"^1 of 1 pictures, \d+ a second\n$")
 
 
-def header(version, application=0x45584E50, start=b"SQLite format 3\0"):
-    """The first 100 bytes of a SQLite file (its documentation, 1.3)."""
-    return start.ljust(60, b"\0") + version.to_bytes(4, "big") + bytes(4) + application.to_bytes(4, "big") + bytes(28)
-
-
-EARLIER = (
-    f" is a catalogue of an earlier release (version {VERSION - 1}, here {VERSION}), which lacks what is compared now. Make a new one:"
-    " exifnorm-pictures index FOLDER --catalogue NEW"
-)
-LATER = f" is a catalogue of a later release (version {VERSION + 1}, here {VERSION})"
-
-
 class Messages(WithPictures):
     """The texts of errors."""
 
@@ -154,42 +141,10 @@ class Messages(WithPictures):
         return str(caught.exception)
 
     def test_of_catalogues(self):
-        name = self.path("c")
-        self.assertEqual(self.raised(NoCatalogue, Catalogue, ""), "the catalogue's name is empty")
-        self.assertEqual(self.raised(NoCatalogue, Catalogue, name), f"there is no catalogue {name}")
-        self.assertEqual(
-            self.raised(NoCatalogue, Catalogue, self.folder),
-            f"{self.folder} is a folder and not a catalogue. To make one: exifnorm-pictures index {self.folder} --catalogue NEW",
-        )
-        other = f"{name} is no catalogue"
-        for octets, text in (
-            (b"", other),
-            (b"abc", other),
-            (header(VERSION - 1), name + EARLIER),
-            (header(VERSION)[:70], other),
-            (header(VERSION, 0x45584E51), other),
-            (header(VERSION + 1), name + LATER),
-            (header(VERSION, start=b"SQLite format 3 "), other),
-        ):
-            write(name, octets)
-            self.assertEqual(self.raised(NoCatalogue, Catalogue, name), text)
-            if octets:
-                self.assertEqual(self.raised(NoCatalogue, Catalogue, name, True), text)
-            self.assertEqual((read(name), os.listdir(self.folder)), (octets, ["c"]))
-        os.remove(name)
-        with Catalogue(name, make=True) as made:
-            self.assertEqual(str(made.failure(sqlite3.OperationalError("disk I/O error"))), f"{name}: disk I/O error")
-            damaged = f"{name} is damaged: no text. Take an older copy, or make a new one by index"
+        with Catalogue(self.path("c"), make=True) as made:
+            self.assertEqual(str(made.failure(sqlite3.OperationalError("disk I/O error"))), f"{made.name}: disk I/O error")
+            damaged = f"{made.name} is damaged: no text. Take an older copy, or make a new one by index"
             self.assertEqual(str(made.failure(Damaged("no text"))), damaged)
-
-    def test_of_names(self):
-        write(self.path("list"), b"a\0b\0")
-        text = f"the list {self.path('list')} contains a NUL: if its names end with NUL, give -0"
-        self.assertEqual(self.raised(walk.BadList, list, walk.names_in_list(self.path("list"), False)), text)
-        self.assertEqual(list(walk.names_in_list(self.path("list"), True)), [b"a", b"b"])
-        asked = Files("show", names=["x", "y"], files_from=self.path("list"), null=True)
-        self.assertEqual(names.named(asked), [b"x", b"y", b"a", b"b"])
-        self.assertEqual(names.chosen_paths(asked), {os.path.abspath(b"a"), os.path.abspath(b"b")})
 
     def test_of_files_that_are_not_replaced(self):
         os.mkdir(self.path("folder"))

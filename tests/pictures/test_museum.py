@@ -28,7 +28,15 @@ caption at most 100 characters
 date created not after 2025-12-31
 creator is "Anna Moor" except texts/
 """
+# The first bytes of a catalogue (SQLite's documentation, 1.3): its version, and which program's it is
+HEADER = "SQLite format 3\0".ljust(60, "\0") + "\0\0\0{}\0\0\0\0{}" + 28 * "\0"
 LISTS = {
+    "earlier.catalogue": HEADER.format(chr(VERSION - 1), "EXNP"),
+    "later.catalogue": HEADER.format(chr(VERSION + 1), "EXNP"),
+    "other.catalogue": HEADER.format(chr(VERSION), "EXNQ"),
+    "cut.catalogue": HEADER.format(chr(VERSION), "EXNP")[:70],
+    "words.catalogue": "words",
+    "empty.catalogue": "",
     "rules": RULES,
     "but-creator": "labels agree except creator\n",
     "creators": "creator agree\n",
@@ -48,6 +56,9 @@ CALLS = {
             index --files-from some0 -0 --catalogue three --json
         index nowhere --catalogue four
         index one/desk --catalogue few --keep-old nowhere/old --jobs 1 --quiet
+        index one/desk --catalogue words.catalogue
+        index one/desk --catalogue earlier.catalogue
+        index one/desk --catalogue cut.catalogue
         index archive/work archive/texts --shards parts --jobs 1 --quiet
             list parts --where 'title = "A vase"'
             same parts --kind iptc
@@ -102,6 +113,16 @@ CALLS = {
         same full --files-from some
         same full --files-from some0 -0 --csv --columns title
         same full --xlsx same.xlsx
+        same archive
+        same nowhere
+        same ''
+        same earlier.catalogue
+        same later.catalogue
+        same other.catalogue
+        same cut.catalogue
+        same words.catalogue
+        same empty.catalogue
+        same full --files-from some0
     """,
     "changed": """
         changed before plain
@@ -207,6 +228,7 @@ CALLS = {
         show archive/work/retitled.jpg archive/texts/structures.jpg --json --debug
         show --files-from some
         show --files-from some0 -0 --csv
+        show one/desk/1.jpg --files-from some0 -0
         show archive/states/*
         show few
         show archive/rare/* --exact
