@@ -44,7 +44,7 @@ __all__ = [
 
 _MODULES = {  # where a name is, if not in api
     "Block": "picture",
-    "Caption": "fields.labels",
+    "Caption": "catalogue.conflicts",
     "Conflict": "catalogue.conflicts",
     "Field": "fields.field",
     "Picture": "picture",

@@ -32,6 +32,8 @@ class ConflictKind(Word):
     DIFFERENT = ("different",)
 
 
+documented(Caption)  # here: many commands import its module, and need nothing of exifnorm
+
 _LONGEST = 160  # characters of a text in a line
 _ORDER = tuple(ConflictKind)
 _CLEAREST = (NAMES[XMP], NAMES[IPTC], NAMES[EXIF])  # the order in which two texts are compared: that which is least often cut first

@@ -9,8 +9,6 @@ import functools
 import re
 from typing import Iterable, Iterator, NamedTuple, Sequence
 
-from exifnorm._words import documented
-
 from ..model.found import EXIF, IPTC, NAMES, SIDECAR, XMP
 from ..model.xmp_values import Long, texts_in
 from .field import Field
@@ -143,7 +141,6 @@ def _typed(word: str) -> str:
     return re.sub(r"[-_ ]+", " ", word.casefold().replace("'", ""))
 
 
-@documented
 class Caption(NamedTuple):
     """The texts of one field for a label, such as "title" or "keywords".
 
