@@ -247,6 +247,8 @@ CALLS = {
         explain one/refused/Overlap.jpg one/refused/NoMarker.jpg one/refused/Loop.jpg
         explain archive/states/* --limit 50 --whole
         explain archive/states/packet-broken.png archive/refused/Overlap.jpg archive/states/cut-in-its-head.jpg --json --debug
+        explain one/refused/* --no-programs
+            explain one/refused/* archive/texts/languages.jpg --no-programs --json
         explain --files-from some
         explain --files-from some0 -0
     """,
