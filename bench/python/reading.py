@@ -20,7 +20,12 @@ import exifnorm
 from PIL import Image
 
 ROUNDS = 5
-IMPORTS = {"exifnorm": "import exifnorm; exifnorm.read", "Pillow": "from PIL import Image", "exifread": "import exifread"}
+IMPORTS = {
+    "exifnorm": "import exifnorm",
+    "exifnorm.read": "import exifnorm; exifnorm.read",
+    "Pillow": "from PIL import Image",
+    "exifread": "import exifread",
+}
 
 
 def by_pillow(path: str) -> object:
@@ -73,7 +78,8 @@ def main(folder: str) -> None:
         print(f"{name}: {min(it[name] for it in rounds) / len(paths) * 1000:.2f} ms a file")
     for name, code in IMPORTS.items():
         words = f"import sys, time; own = set(sys.modules); began = time.process_time(); {code}; print(time.process_time() - began, len({{*sys.modules}} - own))"
-        runs = [subprocess.run([sys.executable, "-c", words], stdout=subprocess.PIPE, text=True).stdout.split() for _ in range(ROUNDS)]
+        pipes = {"stdout": subprocess.PIPE, "stderr": subprocess.DEVNULL}
+        runs = [subprocess.run([sys.executable, "-c", words], text=True, **pipes).stdout.split() for _ in range(ROUNDS)]
         if all(runs):
             print(f"import of {name}: {min(float(it[0]) for it in runs) * 1000:.0f} ms, {runs[0][1]} modules")
 
