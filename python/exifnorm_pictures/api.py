@@ -310,8 +310,15 @@ def compare(before: Picture | Source, after: Picture | Source, *, ask_exiftool: 
     if comparison.is_identical:
         return Comparison(True, str(Result.SAME), "the two files are identical, byte for byte", (), str(Coded.SAME), proved, with_xmp)
     differences = tuple(map(_difference, compared.changes))
-    picture = str(compared.picture)
-    return Comparison(compared.result.decided, str(compared.result), compared.note, differences, picture, proved, with_xmp)
+    return Comparison(
+        compared.result.decided,
+        str(compared.result),
+        compared.note,
+        differences,
+        str(compared.picture),
+        proved,
+        with_xmp,
+    )
 
 
 def _with_pixels(picture: Picture) -> PictureRecord:

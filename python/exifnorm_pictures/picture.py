@@ -5,7 +5,7 @@ from __future__ import annotations
 
 import os
 import warnings
-from functools import partial
+from functools import cached_property, partial
 from typing import TYPE_CHECKING, Any, Callable, Container, Iterable, Iterator, Mapping, NamedTuple, Sequence, Type, TypeVar, overload
 
 from exifnorm._words import documented
@@ -192,11 +192,6 @@ class Picture(Mapping[str, "Value"]):
     A picture equals itself alone; `same_as` compares two by what they mean. One without a field is empty, and false as an empty dict is.
     """
 
-    __slots__ = (
-        *("name", "path", "type", "_problem", "_detail", "_origin"),
-        *("_read", "_records", "_blocks", "_fields_of", "_names", "_texts", "_made_record"),
-    )
-
     def __init__(
         self,
         name: bytes,
@@ -209,11 +204,8 @@ class Picture(Mapping[str, "Value"]):
         # why a command could not read it; empty of one that `read` returns
         self.type, self._problem, self._detail = read.type, read.problem or "", read.detail
         self._read, self._records, self._texts = read, records, texts
-        self._blocks: tuple[Block, ...] | None = None
         # a block that refers to its picture would keep both until the next collection
         self._fields_of = partial(_fields_in_sets, records, read.rest, {})
-        self._names: list[tuple[BlockRecord, dict[str, list[Field]]]] | None = None  # of each block
-        self._made_record: PictureRecord | None = None
 
     @classmethod
     def _of(cls, name: bytes, read: Blocks) -> "Picture":
@@ -250,13 +242,11 @@ class Picture(Mapping[str, "Value"]):
         """The kinds of which no block is left in a damaged file, and one may be missing: "exif", "iptc", "xmp"."""
         return tuple(not_known(self.type, self.not_read, (it.kind for it in self._records)))
 
-    @property
+    @cached_property
     def blocks(self) -> tuple[Block, ...]:
         """The blocks, in the order of the file."""
-        if self._blocks is None:
-            data = {it.name: it.data for it in self._read.blocks}
-            self._blocks = tuple(Block(it, data.get(it.name, b""), self._fields_of) for it in self._records)
-        return self._blocks
+        data = {it.name: it.data for it in self._read.blocks}
+        return tuple(Block(it, data.get(it.name, b""), self._fields_of) for it in self._records)
 
     @property
     def fields(self) -> Iterator[Field]:
@@ -283,13 +273,11 @@ class Picture(Mapping[str, "Value"]):
             return None
         return "+".join(it or "-" for it in meanings)
 
-    @property
+    @cached_property
     def _record(self) -> PictureRecord:
         """The picture as a catalogue has it."""
-        if self._made_record is None:
-            path = os.path.abspath(self._origin.path) if self._origin.path else b""
-            self._made_record = PictureRecord.of_blocks(path, b"", self._origin.stamp, self._read, self._records)
-        return self._made_record
+        path = os.path.abspath(self._origin.path) if self._origin.path else b""
+        return PictureRecord.of_blocks(path, b"", self._origin.stamp, self._read, self._records)
 
     @property
     def json(self) -> Members:
@@ -314,15 +302,23 @@ class Picture(Mapping[str, "Value"]):
     @property
     def names(self) -> tuple[str, ...]:
         """The names of all fields, each once, in the order of the file."""
-        return tuple(dict.fromkeys(field.name for fields in self._lists() for field in fields))
+        return tuple(self._by_name)
+
+    @cached_property
+    def _by_name(self) -> dict[str, list[Field]]:
+        """The fields by the names that they have here. Most are asked for by these."""
+        return _named_in(self._lists())
+
+    @cached_property
+    def _by_spelling(self) -> list[tuple[BlockRecord, dict[str, list[Field]]]]:
+        """The fields of each block by all spellings of their names."""
+        known = {id(fields): _spelled(fields) for fields in self._lists()}
+        return [(record, known[id(fields)]) for record, fields in self._of_blocks()]
 
     def _own(self, name: str) -> list[tuple[BlockRecord, list[Field]]]:
         """The fields with a name of this program, of each block that has some."""
-        if self._names is None:
-            known = {id(fields): _by_name(fields) for fields in self._lists()}
-            self._names = [(record, known[id(fields)]) for record, fields in self._of_blocks()]
         folded = _text(name).casefold()
-        return [(record, names[folded]) for record, names in self._names if folded in names]
+        return [(record, names[folded]) for record, names in self._by_spelling if folded in names]
 
     def _named(self, name: str) -> list[tuple[BlockRecord, list[Field]]]:
         """The same, or else the fields that other programs name so."""
@@ -360,17 +356,11 @@ class Picture(Mapping[str, "Value"]):
 
     def _value(self, name: str, default: Any) -> Any:
         """The value of the first field with a name. A warning is for the caller of what calls this."""
-        found = self._named(name)
-        if not found:
+        if own := self._by_name.get(name):
+            return _value_of(own)
+        named = _named_in(fields for _, fields in self._named(name))
+        if not named:
             return default
-        if len(found) == 1 == len(found[0][1]):  # as most are
-            return found[0][1][0].value
-        named: dict[str, list[Field]] = {}
-        for _, fields in found:
-            known = frozenset(named)
-            for field in fields:
-                if field.name not in known:
-                    named.setdefault(field.name, []).append(field)
         first, *others = map(_value_of, named.values())
         if any(it != first for it in others):
             from .fields.choosing import stands_for  # which few names need
@@ -379,8 +369,8 @@ class Picture(Mapping[str, "Value"]):
         return first
 
     def _first(self, name: str) -> Value:
-        """The value of the first field with a name of this program."""
-        return next((fields[0].value for _, fields in self._own(name)), None)
+        """The value of the first field with a name that it has here."""
+        return self._by_name[name][0].value if name in self._by_name else None
 
     def __getitem__(self, name: str) -> Value:
         found: Value = self._value(name, _NOTHING) if isinstance(name, str) else _NOTHING
@@ -389,7 +379,7 @@ class Picture(Mapping[str, "Value"]):
         return found
 
     def __contains__(self, name: object) -> bool:
-        return isinstance(name, str) and bool(self._named(name))
+        return isinstance(name, str) and (name in self._by_name or bool(self._named(name)))
 
     def __iter__(self) -> Iterator[str]:
         return iter(self.names)
@@ -504,7 +494,19 @@ def _value_of(fields: Sequence[Field]) -> Value:
     return fields[0].value if len(fields) == 1 else tuple(it.value for it in fields)
 
 
-def _by_name(fields: Sequence[Field]) -> dict[str, list[Field]]:
+def _named_in(blocks: Iterable[list[Field]]) -> dict[str, list[Field]]:
+    """The fields of blocks by their names; of several blocks with a name those of the first."""
+    named: dict[str, list[Field]] = {}
+    for fields in blocks:
+        known = frozenset(named)
+        for field in fields:
+            name = field.name
+            if name not in known:
+                named.setdefault(name, []).append(field)
+    return named
+
+
+def _spelled(fields: Sequence[Field]) -> dict[str, list[Field]]:
     """Fields by all spellings of their names."""
     names: dict[str, list[Field]] = {}
     for field in fields:

@@ -2,14 +2,23 @@
 
 import hashlib
 import io
+import os
 import random
 
 import pytest
 
+import exifnorm
 import made_by_tools
 from exifnorm import LibraryMissing, _jpeg, _library
 from exifnorm_pictures.extract.formats import jpeg
+from exifnorm_pictures.fields.block_fields import fields_of
+from exifnorm_pictures.files.session import Session
 from exifnorm_pictures.judge import judge
+from exifnorm_pictures.model.budgets import Budget
+from exifnorm_pictures.model.records import Stamp
+from exifnorm_pictures.scan.batches import How
+from exifnorm_pictures.scan.looking import look
+from exifnorm_pictures.scan.walk import FoundFile
 from jpeg_made import COMMENT, EXTENSION, PICTURE, SCAN, exif, iptc, packet, photoshop, picture, resource, segment
 from meanings import ASCII, SHORT, UNDEFINED, Exif, Layout, Record, Value, laid
 from small_blocks import CAPTION, ONE, outcome
@@ -61,18 +70,21 @@ def both(native, shared, monkeypatch):
     def results(octets):
         for name, function in made.items():
             setattr(library, name, function)
-        by_module = outcome(read, octets)
+        by_module = [outcome(read, octets, packs) for packs in (True, False)]
         for name in made:
             setattr(library, name, _library._left)
-        return by_module, outcome(read, octets)
+        return by_module, [outcome(read, octets, packs) for packs in (True, False)]
 
     return results
 
 
-def read(octets):
-    blocks = jpeg.read(io.BytesIO(octets))
+def read(octets, packs):
+    stream = io.BytesIO(octets)
+    stream.budget = Budget(packs=packs)
+    blocks = jpeg.read(stream)
     about = blocks.blocks[:], blocks.not_read[:], blocks.damage, blocks.iptc_digest, blocks.counts, blocks.has_more, blocks.rest
-    return about, judge.judge_all(blocks, True), blocks.not_read
+    judged = [(it._replace(fresh=None), fields_of(it)) for it in judge.judge_all(blocks, packs)]
+    return about, judged, blocks.not_read
 
 
 def changed(octets, chance):
@@ -109,6 +121,21 @@ def test_usual_pictures_are_not_left(native, shared, monkeypatch):
     forms = [form for form in map(library.normalise, BLOCKS + RECORDS) if isinstance(form, bytes)]
     assert len(forms) > 4 and all(library.packed(form, hashlib.sha256) for form in forms)
     assert sum(library.xmp_packed(it, hashlib.sha256, str, lambda octets: b"[]") is not None for it in PACKETS) > 10
+
+
+def test_fields_are_packed_for_a_catalogue_alone(native, shared, monkeypatch, tmp_path):
+    """A program that reads a picture doesn't wait for what a catalogue keeps."""
+    monkeypatch.setattr(_library, "_native", native)
+    library, hashed = _library.Library(str(shared)), []
+    monkeypatch.setattr(jpeg, "library", lambda: library)
+    counting = [lambda octets: hashed.append(octets) or hashlib.sha256(octets), *jpeg._JUDGING[1:]]
+    monkeypatch.setattr(jpeg, "_JUDGING", tuple(counting))
+    (tmp_path / "a.jpg").write_bytes(picture(exif(ONE), end=BEHIND))
+    path = os.fsencode(tmp_path / "a.jpg")
+    assert exifnorm.read(path).is_whole and exifnorm.compare(path, path).same and hashed == []
+    found = FoundFile(path, os.path.dirname(path), Stamp.of(os.stat(path)))
+    with Session() as session:
+        assert look(found, How(), session).exif and hashed != []
 
 
 def test_a_module_of_another_release(native, shared, monkeypatch):

@@ -10,6 +10,7 @@ import re
 import struct
 import subprocess
 import sys
+import warnings
 from collections.abc import Mapping
 from datetime import date, datetime, time, timedelta, timezone
 from fractions import Fraction
@@ -97,6 +98,26 @@ def test_pictures_that_mean_the_same():
     assert cut.is_whole is False and cut.same_as(before) is before.same_as(cut) is None
     plain = [pictures.read_bytes(it) for it in (SMALL_JPEG, png())]
     assert plain[0].same_as(plain[1]) is True and plain[0].same_as(bowl) is False  # both have no metadata, which is known
+
+
+def test_each_name_has_its_own_value():
+    """Also where another one differs from it in capital letters alone."""
+    packet = xmp("<dc:rights>one</dc:rights><dc:Rights>two</dc:Rights>")
+    with warnings.catch_warnings():
+        warnings.simplefilter("error")
+        assert dict(pictures.read_bytes(packet)) == {"XMP-dc:rights": "one", "XMP-dc:Rights": "two"}
+    with pytest.warns(UserWarning, match="XMP-dc:Rights, XMP-dc:rights"):
+        assert pictures.read_bytes(packet)["XMP-DC:RIGHTS"] == "two"
+
+
+def test_of_two_blocks_the_first_has_the_value():
+    artists = [block([entry(0x013B, ASCII, 4, it)]) for it in (b"Ann\0", b"Udo\0")]
+    both = pictures.read_bytes(jpeg(*map(app1, artists)))
+    names = ("IFD0:Artist", "artist", "0x013b")
+    assert [both[it] for it in names] == ["Ann"] * 3
+    assert [len(both.find(it)) for it in names] == [2] * 3
+    assert len(both) == 1 and "IFD0:Artist" in both and "ARTIST" in both
+    assert "IFD0:Artists" not in both
 
 
 def test_a_value_of_a_type():

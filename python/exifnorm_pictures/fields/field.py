@@ -62,11 +62,10 @@ class Field:
         _set_content(self, content)
         _set_block(self, block)
 
-    def __setattr__(self, name: str, value: object) -> NoReturn:
+    def __setattr__(self, name: str, value: object = None) -> NoReturn:
         raise AttributeError(f"a field doesn't change: {name}")
 
-    def __delattr__(self, name: str) -> NoReturn:
-        raise AttributeError(f"a field doesn't change: {name}")
+    __delattr__ = __setattr__
 
     def __reduce__(self) -> tuple[Any, ...]:
         return type(self), (*self._identity, self._block)

@@ -126,17 +126,18 @@ def _of_dataset(key: str, octets: bytes) -> Value:
 def _dated(form: str, in_xmp: str, text: str) -> datetime | date | None:
     """A date in a form, by the form that it has in XMP; None of another one, and of a date that no calendar has."""
     match = re.fullmatch(form, text, re.ASCII)
-    value = object_of("xmp:CreateDate", match.expand(in_xmp)) if match else None
+    value = object_of("xmp:CreateDate", in_xmp.format(*match.groups())) if match else None
     return value if isinstance(value, date) else None
 
 
 def _clock(text: str) -> time | None:
-    moment = _dated(r"(\d\d)(\d\d)(\d\d)(?:([+-]\d\d)(\d\d))?", r"2000-01-01T\1:\2:\3" + r"\4:\5" * (len(text) > 6), text)
+    form = "2000-01-01T{}:{}:{}" + "{}:{}" * (len(text) > 6)
+    moment = _dated(r"(\d\d)(\d\d)(\d\d)(?:([+-]\d\d)(\d\d))?", form, text)
     return moment.timetz() if isinstance(moment, datetime) else None
 
 
-_DAY = partial(_dated, r"(\d{4})(\d\d)(\d\d)", r"\1-\2-\3")
-_MOMENT = partial(_dated, r"(\d{4}):(\d\d):(\d\d) (\d\d:\d\d:\d\d)", r"\1-\2-\3T\4")
+_DAY = partial(_dated, r"(\d{4})(\d\d)(\d\d)", "{}-{}-{}")
+_MOMENT = partial(_dated, r"(\d{4}):(\d\d):(\d\d) (\d\d:\d\d:\d\d)", "{}-{}-{}T{}")
 # Dates and times in the form of their standard, by the directory and the tag of a field
 _DATED: dict[tuple[str, str], Callable[[str], Value]] = {
     **dict.fromkeys(_DATES, _MOMENT),

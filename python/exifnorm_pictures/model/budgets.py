@@ -100,9 +100,16 @@ class TooLong(TooMuch):
 class Budget:
     """What one picture may still cost."""
 
-    def __init__(self, whole: bool = False, seconds: float | None = None, most: int | None = None) -> None:
-        """With `seconds` reading ends after so many of a clock, and with `most` a file with more bytes isn't read."""
-        self.seconds, self.most = seconds, most
+    def __init__(
+        self,
+        whole: bool = False,
+        seconds: float | None = None,
+        most: int | None = None,
+        packs: bool = False,
+    ) -> None:
+        """With `seconds` reading ends after so many of a clock, and with `most` a file with more
+        bytes isn't read. With `packs` the fields are packed for a catalogue."""
+        self.seconds, self.most, self.packs = seconds, most, packs
         self._deadline = None if seconds is None else time.monotonic() + seconds
         self.times = WHOLE if whole else 1
         self.left = {what: most * WHOLE for what, most in LIMITS.items()} if whole else LIMITS.copy()

@@ -80,7 +80,7 @@ def _look(file: FoundFile, how: How, session: Session, packs: bool) -> PictureRe
 def _read(file: FoundFile, how: How, session: Session, packs: bool) -> tuple[Blocks, list[BlockRecord]]:
     """The blocks of a file and its sidecars, and what they mean. A file over a limit has a problem, and so has one for which a program takes too long."""
     try:
-        blocks = extraction.blocks_of_file(file.path, how.whole, session)
+        blocks = extraction.blocks_of_file(file.path, how.whole, session, packs)
         if blocks.problem == Problem.NO_FILE:  # which was there when its folder was listed
             blocks = Blocks(problem=Problem.VANISHED, detail=Problem.VANISHED.text)
         if file.sidecars:
