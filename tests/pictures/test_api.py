@@ -29,6 +29,7 @@ from test_captions import data_set, with_record
 from test_cr3 import cr3, structures
 
 import exifnorm
+import exifnorm_pictures
 from exifnorm import pictures
 from exifnorm_pictures import many
 from exifnorm_pictures.catalogue import texts
@@ -773,6 +774,13 @@ def test_reading_loads_no_more_than_it_needs():
     words = [sys.executable, "-S", "-c", code, str(BEFORE / BOWL)]
     done = subprocess.run(words, stdout=subprocess.PIPE, text=True, check=True, env={**os.environ, "PYTHONPATH": f"{TOP}/python"})
     assert not {"multiprocessing", "concurrent.futures", "socket", "logging", "subprocess", "tempfile", "shutil"} & {*done.stdout.split()}
+
+
+@pytest.mark.parametrize("code", ["from exifnorm_pictures import read", "exifnorm_pictures.read"])
+def test_the_package_of_the_code_says_what_to_import(code):
+    with pytest.raises(ImportError, match="exifnorm.read"):
+        exec(code, {"exifnorm_pictures": exifnorm_pictures})
+    assert not hasattr(exifnorm_pictures, "raed")
 
 
 def test_each_name_has_words():
