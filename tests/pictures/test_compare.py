@@ -251,11 +251,6 @@ def test_a_text_can_not_control_the_terminal(run):
 # Verdicts of their own
 
 
-def test_identical_files(run):
-    status, out, _ = run("compare", "a.jpg", "b.jpg", before=REFUSED[2], after=REFUSED[2])
-    assert (status, out) == (0, "The two files are identical, byte for byte.\n")
-
-
 def test_two_pictures_without_metadata(run):
     status, out, _ = run("compare", "a.jpg", "b.jpg", before=jpeg(), after=png())
     assert (status, out) == (0, "Nothing to compare: neither picture has Exif, IPTC or XMP.\n")
@@ -264,13 +259,6 @@ def test_two_pictures_without_metadata(run):
 def test_the_same_metadata_in_other_formats(run):
     status, out, _ = run("compare", "a.jpg", "b.jpg", before=PLAIN, after=png(chunk(b"eXIf", exif(b"abc"))))
     assert status == 0 and out.startswith("The same metadata.\n")
-
-
-@pytest.mark.parametrize("missing", ["nosuch.jpg", "link.jpg", "."])
-def test_a_file_that_is_not_there_or_no_file(missing, run, folder):
-    (folder / "link.jpg").symlink_to("nothing")
-    status, out, err = run("compare", "a.jpg", missing, before=PLAIN)
-    assert (status, missing in out + err) == (3 if missing == "." else 2, True)
 
 
 def test_names_that_are_no_utf8(run, folder):
@@ -282,22 +270,6 @@ def test_names_that_are_no_utf8(run, folder):
     assert status == 1 and [it["path_hex"] for it in json.loads(out)["pictures"]] == [it.hex() for it in names]
     status, out, _ = run("compare", *map(os.fsdecode, names))
     assert r"\xe91.jpg" in out
-
-
-# Which command for what
-
-
-def test_changed_on_two_pictures_names_compare(run):
-    status, _, err = run("changed", "a.jpg", "b.jpg", before=PLAIN, after=PLAIN)
-    assert status == 3 and "compare A B" in err
-
-
-def test_compare_on_folders_and_catalogues_names_changed(run, folder):
-    (folder / "some").mkdir()
-    assert run("index", "some", "--catalogue", "c", "--quiet")[0] == 0
-    for words in (("some", "some"), ("c", "c"), ("a.jpg", "c")):
-        status, _, err = run("compare", *words, before=PLAIN)
-        assert status == 3 and "changed" in err, words
 
 
 # Others

@@ -41,6 +41,7 @@ LISTS = {
     "but-creator": "labels agree except creator\n",
     "creators": "creator agree\n",
     "some": "archive/desk\narchive/work/pages.tif\n",
+    "doubled": "one/refused/Doubled.jpg\n",
     "fields": "# not these\nIFD0:Artist\nIPTC:Keywords\n",
 }
 
@@ -57,6 +58,10 @@ CALLS = {
         index nowhere --catalogue four
         index one/desk --catalogue few --keep-old nowhere/old --jobs 1 --quiet
         index one/desk --catalogue words.catalogue
+        index one
+        index one few
+        index one --catalogue new --scheduler tcp://127.0.0.1:9
+        index one --catalogue new -0
         index one/desk --catalogue earlier.catalogue
         index one/desk --catalogue cut.catalogue
         index archive/work archive/texts --shards parts --jobs 1 --quiet
@@ -79,12 +84,15 @@ CALLS = {
         catalogue forget full --files-from some
             catalogue forget full --files-from some0 -0 --json
         catalogue forget full nowhere
+        catalogue forget one/nowhere one/other
+        catalogue forget one few
     """,
     "catalogue relocate": """
         catalogue relocate few one/desk moved
             catalogue relocate few moved one/desk --json --debug
         catalogue relocate few nowhere one
         catalogue relocate few one/desk nowhere
+        catalogue relocate one archive
     """,
     "verify": """
         verify full --quiet
@@ -98,6 +106,8 @@ CALLS = {
         verify full --files-from some --quiet
         verify full --files-from some0 -0 --quiet
         verify plain --quiet
+        verify one
+        verify one few
     """,
     "same": """
         same plain
@@ -114,6 +124,7 @@ CALLS = {
         same full --files-from some0 -0 --csv --columns title
         same full --xlsx same.xlsx
         same archive
+        same
         same nowhere
         same ''
         same earlier.catalogue
@@ -153,6 +164,11 @@ CALLS = {
         changed --picture archive/drawer/1.jpg full.before full
         changed --picture archive/work/published.jpg full.before full --json --debug
         changed --picture archive/nowhere.jpg full.before full
+        changed one/desk/1.jpg one/desk/2.jpg
+        changed full.before full --pixels
+        changed full.before full --whole
+        changed before plain --sidecars
+        changed one plain --sidecars
     """,
     "compare": """
         compare one/work/retitled.jpg archive/work/retitled.jpg
@@ -175,6 +191,13 @@ CALLS = {
         compare edits/before/index.jpg edits/after/index.jpg
         compare edits/before/note.tif edits/after/note.tif
         compare one/work/retitled.jpg archive/work/retitled.jpg --xlsx compared.xlsx
+        compare archive/work/touched.jpg archive/work/touched.jpg
+        compare one/desk one/work
+        compare full plain
+        compare one/desk/1.jpg few
+        compare one/desk/1.jpg one/nowhere.jpg
+        compare one/copies/lost.jpg one/desk/1.jpg
+        compare one/desk/1.jpg one/desk
     """,
     "list": """
         list few
@@ -193,7 +216,10 @@ CALLS = {
         list full --since 2026-01-04
         list archive --with position --sidecars --jobs 1 --quiet --whole --limit 50 --debug
         list full --where 'creatr = x'
+        list plain --where 'without title and not without creator'
+        list plain --columns Sharpnes
         list full --xlsx list.xlsx
+        list
     """,
     "check": """
         check --rules rules plain
@@ -212,6 +238,7 @@ CALLS = {
         check --files-from some
         check --files-from some0 -0 --all
         check full --xlsx conflicts.xlsx
+        check --rules rules
     """,
     "nightly": """
         nightly archive --catalogue night --rules rules --jobs 1
@@ -220,6 +247,10 @@ CALLS = {
         nightly archive --catalogue night2 --exclude odd --maker-notes --sidecars --pixels --whole --limit 50 --debug --json
         nightly archive --catalogue before --html letter.html --jobs 1 --json
         nightly archive --catalogue full.before --html letter/ --jobs 1 --nights 1
+        nightly one new
+        nightly nowhere
+        nightly nowhere new
+        nightly 'a b' few
     """,
     "show": """
         show archive/texts/*.jpg
@@ -251,6 +282,7 @@ CALLS = {
             explain one/refused/* archive/texts/languages.jpg --no-programs --json
         explain --files-from some
         explain --files-from some0 -0
+        explain few
     """,
     "report": """
         report plain
@@ -259,6 +291,7 @@ CALLS = {
         report full --html page.html --ignore IFD0:Artist --ignore @fields
         report full --only @fields --equal-numbers --since full.before --html page.html --files-from some
         report full --files-from some0 -0 --html page.html --rules rules
+        report --html page.html
     """,
     "catalogue export": """
         catalogue export full tables.sqlite --quiet
@@ -266,6 +299,7 @@ CALLS = {
         catalogue export plain plain.sqlite --json --no-look --limit 50 --debug --quiet
         catalogue export full some.sqlite --files-from some --quiet
         catalogue export full some0.sqlite --files-from some0 -0 --quiet
+        catalogue export tables
     """,
     "mend": """
         mend archive/states/two-blocks.jpg mended.jpg
@@ -277,6 +311,8 @@ CALLS = {
         mend one/refused/Doubled.jpg mended.jpg
         mend archive/states/cut-in-its-picture.jpg mended5.jpg
         mend archive/states/cut-in-its-head.jpg mended6.jpg --json
+        mend one mended7
+        mend --files-from doubled mended
     """,
 }
 # What a page runs, or loads from elsewhere, or leads to

@@ -2,7 +2,6 @@
 
 import argparse
 import importlib
-import re
 import shutil
 
 import pytest
@@ -161,81 +160,9 @@ def test_the_catalogue_as_a_name_and_as_an_option(command, archive, called):
     assert answer(*(it for it in words if it != "c"), "--catalogue", "c") == expected
 
 
-@pytest.mark.parametrize("command", ["show", "explain"])
-def test_a_catalogue_in_place_of_a_picture(command, archive, called):
-    status, printed, _ = called(command, "c")
-    assert status == 2 and "a catalogue" in printed and "list" in printed, printed
-
-
 def folder_of(top):
     """The bytes of each file below a folder."""
     return {str(it.relative_to(top)): it.read_bytes() for it in sorted(top.rglob("*")) if it.is_file()}
-
-
-@pytest.mark.parametrize(
-    "words, proposed",
-    [
-        (("verify", "p"), "verify CATALOGUE p"),
-        (("verify", "p", "c"), "verify c p"),
-        (("catalogue", "forget", "p/no", "p/other"), "catalogue forget CATALOGUE p/no p/other"),
-        (("catalogue", "forget", "p", "c"), "catalogue forget c p"),
-        (("index", "p"), "index p --catalogue CATALOGUE"),
-        (("index", "p", "c"), "index c p"),
-        (("nightly", "p", "new"), "nightly p --catalogue new"),
-        (("nightly", "no"), "nightly no --catalogue CATALOGUE"),
-        (("nightly", "no", "new"), "nightly no new --catalogue CATALOGUE"),
-        (("nightly", "a b", "c"), "nightly c 'a b'"),
-        (("mend", "p", "q"), "index p --catalogue NEW"),
-    ],
-)
-def test_a_first_name_that_is_no_catalogue(words, proposed, archive, called):
-    """Nothing is written, and the answer has the line that may be meant."""
-    before = folder_of(archive)
-    status, printed, message = called(*words)
-    assert (status, printed) == (3, "") and f"exifnorm-pictures {proposed}" in message, message
-    assert folder_of(archive) == before
-
-
-@pytest.mark.parametrize(
-    "words",
-    [
-        ("same",),
-        ("report", "--html", "page"),
-        ("catalogue export", "tables"),
-        ("catalogue relocate", "p", "q"),
-        ("list",),
-        ("check", "--rules", "rules"),
-    ],
-)
-def test_a_catalogue_that_is_missing(words, archive, called, capsys):
-    with pytest.raises(SystemExit) as ended:
-        called(*words[0].split(), *words[1:])
-    assert ended.value.code == 3 and re.search("CATALOGUE|FILE|NEW|at least one name", capsys.readouterr().err.splitlines()[-1])
-
-
-@pytest.mark.parametrize(
-    "words, why",
-    [
-        (("index", "p", "--catalogue", "d", "--scheduler", "tcp://127.0.0.1:9"), "give --shards DIR"),
-        (("changed", "c", "c", "--pixels"), "for folders"),
-        (("changed", "c", "c", "--whole"), "for folders"),
-        (("changed", "c", "c", "--sidecars"), "without --sidecars"),
-        (("changed", "p", "c", "--sidecars"), "without --sidecars"),
-    ],
-)
-def test_options_without_effect(words, why, archive, called):
-    """Each is for something that isn't there: silence would look like an answer that heeds it."""
-    status, printed, messages = called(*words)
-    assert (status, printed) == (3, "")
-    assert why in messages
-    assert not (archive / "d").exists()
-
-
-def test_an_option_of_a_list_without_a_list(archive, called, capsys):
-    with pytest.raises(SystemExit) as ended:
-        called("index", "p", "--catalogue", "d", "-0")
-    assert ended.value.code == 3
-    assert "--files-from" in capsys.readouterr().err
 
 
 @pytest.mark.parametrize("command, option", of_each_command("--no-programs"))

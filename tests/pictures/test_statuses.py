@@ -10,7 +10,7 @@ from exifnorm_pictures.model.found import UNREAD_TRAILER
 from exifnorm_pictures.scan import index
 from made_blocks import BLOCKS
 from made_files import app1, app1_xmp, exif, jpeg, title
-from studio import errors, needs, put
+from studio import needs, put
 
 GOOD = jpeg(app1(exif(b"abc")), app1_xmp(title("a")))
 
@@ -122,37 +122,6 @@ def test_a_mistyped_folder_is_refused_also_by_a_catalogue_that_is_there(asked, f
     asked("index", "typo", "--catalogue", "c", status=3)
     shutil.rmtree(folder / "p")
     asked("index", "p", "--catalogue", "c", status=2)  # a folder of the catalogue, which may be an unmounted disk
-
-
-@pytest.mark.parametrize(
-    "words",
-    [
-        ("same", "c"),
-        ("changed", "c", "c"),
-        ("changed", "c", "p"),
-        ("show", "--captions", "c"),
-        ("check", "c"),
-        ("report", "c", "--html", "page"),
-        ("catalogue", "export", "c", "tables"),
-        ("verify", "c"),
-        ("index", "p", "--catalogue", "c", "--quiet"),
-        ("catalogue", "merge", "c", "--catalogue", "d"),
-        ("catalogue", "forget", "c", "p"),
-    ],
-    ids=lambda words: " ".join(words),
-)
-def test_a_catalogue_of_an_earlier_release(words, folder, called):
-    """One line says what to run, and the catalogue stays as it is."""
-    (folder / "p").mkdir()
-    called("index", "p", "--catalogue", "c", "--quiet")
-    with sqlite3.connect(folder / "c") as base:
-        base.execute("PRAGMA user_version = 5")
-    base.close()
-    before = (folder / "c").read_bytes()
-    status, printed, message = called(*words)
-    assert (status, printed, len(errors(message))) == (4, "", 1), message
-    assert "earlier release (version 5" in message and message.endswith("exifnorm-pictures index FOLDER --catalogue NEW\n")
-    assert (folder / "c").read_bytes() == before
 
 
 @pytest.mark.parametrize("words", [("show", "--captions"), ("check",)], ids=" ".join)
