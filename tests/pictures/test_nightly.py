@@ -523,8 +523,11 @@ def test_names_of_the_first_letter(archive, called):
     assert "1 can't be read: web/0.orf" in called("nightly", "p", "--catalogue", "n")[1]
 
 
-def test_catalogues_of_several_days(archive, called, monkeypatch):
+@pytest.mark.parametrize("has_links", [True, False])
+def test_catalogues_of_several_days(has_links, archive, called, monkeypatch):
     """A letter's command answers days later as on its night; what isn't a catalogue is left alone."""
+    if not has_links:
+        monkeypatch.setattr(nights, "_link", shutil.copyfile)
     (archive.parent / "c.catalogue.2001-01-01").write_bytes(b"a diary")
 
     def night(day):
@@ -547,8 +550,13 @@ def test_catalogues_of_several_days(archive, called, monkeypatch):
     assert kept() == ["29", "30", "31"] and called(*command) == answer
     put(archive, {"web/2.jpg": picture(9, title="again", credit="Museum")})
     _, letter, _ = night(31)
-    assert letter.partition("exifnorm-pictures ")[2].split()[2:] == ["c.before.catalogue", "c.catalogue.2026-11-31"]
+    second = letter.partition("exifnorm-pictures ")[2].split()
+    assert second[2:] == ["c.catalogue.2026-11-30", "c.catalogue.2026-11-31"]
     assert kept() == ["29", "30", "31"] and called(*command) == answer
+    whole_day = called(*second)
+    assert all(f"web/{number}.jpg" in whole_day[1] for number in (1, 2))
+    put(archive, {"web/3.jpg": picture(9, title="last", credit="Museum")})
+    assert night(32)[0] == 1 and called(*second) == whole_day
     assert (archive.parent / "c.catalogue.2001-01-01").read_bytes() == b"a diary"
-    (archive.parent / "c.catalogue.2026-11-32").write_bytes(b"a diary")
-    assert night(32)[0] == 4 and "a file of another kind" in night(32)[2]
+    (archive.parent / "c.catalogue.2026-11-33").write_bytes(b"a diary")
+    assert night(33)[0] == 4 and "a file of another kind" in night(33)[2]

@@ -63,9 +63,10 @@ class Nights:
 
     @property
     def compared(self) -> tuple[str, str]:
-        """The names under which the catalogues of the last night and of tonight stay the longest."""
-        same = (it for it in self._of_days() if it != self.of_today and os.path.samefile(it, self.last))
-        return next(same, self.before), self.of_today or self.last
+        """The names under which tonight's catalogue and that of an earlier day stay, or of the last night. A second run of a day
+        is compared with the day before, too, as the first run's state has no name that stays."""
+        days = (it for it in self._of_days() if it < self.of_today)
+        return next(days, self.before), self.of_today or self.last
 
     def _of_days(self) -> list[str]:
         """The catalogues with a date in their names, the last one first."""
