@@ -120,7 +120,7 @@ def test_a_picture_that_nobody_compares(name, folder, called):
     assert status == 1 and printed.startswith(f"{name}: other bytes, the same metadata"), printed
     assert "--pixels compares" not in printed + letter
     status, printed, _ = called("compare", f"q/{name}", f"p/{name}")
-    assert status == 1 and "aren't read" in printed, printed
+    assert status == 1 and "weren't read" in printed, printed
 
 
 @pytest.mark.parametrize("files", [{}, {"p/note.txt": b"no picture"}], ids=["nothing", "a text"])

@@ -275,8 +275,8 @@ class TestHarm:
         self.ends(b"\xff\xd8" + b"\xff\xfe\0\2" * 100_001 + SMALL_JPEG[2:])
 
     def test_chunks(self):
-        self.ends(png(*[chunk(b"tEXt", b"")] * 100_001))
-        self.ends(webp(*[(b"XMP ", b"")] * 100_001))
+        self.ends(png(*[chunk(b"tEXt", b"")] * 125_001))
+        self.ends(webp(*[(b"XMP ", b"")] * 125_001))
 
     def test_strips_that_share_bytes(self):
         """A thousand pages with the same megabyte are no gigabyte to read."""

@@ -297,6 +297,21 @@ def test_a_part_that_is_too_large_is_never_equal(folder, called, monkeypatch):
     assert called("changed", "c", "d")[0] == 0, "the files have the same bytes"
 
 
+@pytest.mark.parametrize("name", ("a PNG", "a WebP"))
+def test_a_picture_with_as_many_chunks_as_may_be(name, folder, called, monkeypatch):
+    """It is compared as a whole. With one more it isn't read, and nobody says that its format isn't."""
+    octets = FILES[name]
+    left = readers.reader_of(octets[: readers.HEAD], b"")(io.BytesIO(octets), False).budget.left
+    count = budgets.LIMITS[budgets.CHUNKS] - left[budgets.CHUNKS]
+    put(folder, {"a": octets, "b": octets.replace(b"video", b"other")})
+    monkeypatch.setitem(budgets.LIMITS, budgets.CHUNKS, count)
+    status, printed, _ = called("compare", "a", "b")
+    assert status in (1, 2) and printed.endswith("Other parts of the files differ: trailer changed.\n")
+    monkeypatch.setitem(budgets.LIMITS, budgets.CHUNKS, count - 1)
+    status, printed, _ = called("compare", "a", "b")
+    assert (status, "more than" in printed, "format" in printed) == (1, True, False), printed
+
+
 def test_many_names(folder, called):
     """Of a file with many names a few are shown, and none is said to have come or gone whose fate isn't known."""
     kinds = [b"pr" + bytes([65 + it // 26, 97 + it % 26]) for it in range(100)]

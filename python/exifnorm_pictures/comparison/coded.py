@@ -31,8 +31,8 @@ class Coded(Word):
     DAMAGED = ("damaged",)
     DAMAGED_BEFORE = ("damaged before",)
     DAMAGED_BOTH = ("damaged before and after",)
-    UNREAD = ("not read in files with other bytes", "The pictures aren't read here, and the files have other bytes.")
-    UNKNOWN = ("not compared", "Only metadata was compared: these pictures aren't read here.")
+    UNREAD = ("not read in files with other bytes", "The pictures weren't read, and the files have other bytes.")
+    UNKNOWN = ("not compared", "Only metadata was compared: these pictures weren't read.")
 
 
 # Whether the rests of two files, in the rows `old` and `new`, are equal: a part without a digest only if the whole files are

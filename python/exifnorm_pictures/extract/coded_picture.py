@@ -111,7 +111,7 @@ _MOVES = 0x02  # the bit of VP8X that says so; a picture that doesn't move has V
 
 def _png(stream: Stream, coded: "hashlib.blake2b", budget: Budget) -> Iterable[parts.Part]:
     last, data = b"", 0
-    chunks = list(png.chunks(stream, budget))
+    chunks = list(png.chunks(stream, budget.again()))  # they were counted when they were read
     for at, kind, length in chunks:
         if kind in png.PIXELS:
             if kind != b"IDAT" and last == b"IDAT":
@@ -138,7 +138,7 @@ def _check(stream: Stream, coded: "hashlib.blake2b | None", chunk: tuple[int, by
 
 def _webp(stream: Stream, coded: "hashlib.blake2b", budget: Budget) -> Iterable[parts.Part]:
     flags = _ALPHA
-    chunks = list(webp.chunks(stream, webp.end_of(stream), budget))
+    chunks = list(webp.chunks(stream, webp.end_of(stream), budget.again()))
     for at, kind, length in chunks:
         if kind == b"VP8X":
             flags, *size = read_at(stream, at + 8, min(length, 10)) or b"\0"

@@ -36,7 +36,7 @@ LIMITS: dict[str, int] = {
     NOT_READ: 10_000,  # need 358
     SEGMENTS: 100_000,  # of a JPEG; need 37, and a profile of 16 MB has 256
     SEGMENT_BYTES: 40 << 20,  # of those that are kept: with what is made of them 200 MB of memory; need 1.7 MB
-    CHUNKS: 100_000,  # of a PNG or WebP; need 678, and 100 MB in pieces of 8 kB are 13,000
+    CHUNKS: 125_000,  # of a PNG or WebP; need 678, and 100 MB in pieces of 8 kB are 13,000
     CHUNK_BYTES: 32 << 20,  # of those that are kept, and of what they inflate to; twice as much takes 321 MB of memory; need 37 kB
     EXTENSIONS: 100_000,  # of a GIF; need 85
     BLOCK_BYTES: 32 << 20,  # of application extensions that are kept; need 1 kB

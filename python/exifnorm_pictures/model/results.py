@@ -29,14 +29,14 @@ class Result(Word):
     DIFFERENT_REPAIRED = ("different after repair", True)
     ONLY_MAKER_NOTE = ("only MakerNote differs", True, "Only the MakerNote differs.")
     ONLY_NUMBERS = ("only equal numbers are written otherwise", True)
-    FILE_DIFFERENT = ("not read, different bytes", True, "Different bytes, in a format that isn't read.")
+    FILE_DIFFERENT = ("not read, different bytes", True, "Different bytes, and the metadata weren't read.")
     NO_PICTURE_DIFFERENT = ("no picture, different bytes", True, "Different bytes, and the files are no pictures.", False, True)
     MOVED = ("moved", True)
     RENUMBERED = ("renumbered", True)  # moved to a name that another picture had, or whose old name another one has
     MOVED_EDITED = ("moved and edited", True)  # which the digest of its coded picture shows
     OTHER_PICTURE_ALONE = ("other picture, the same metadata", True, "The same metadata, and another picture.")
     OTHER_PARTS = ("other parts, the same metadata", True, "The same metadata and picture, and other parts of the files.")
-    OTHER_BYTES = ("other bytes, the same metadata", True, "The same metadata, and other bytes in a format whose pictures aren't read.")
+    OTHER_BYTES = ("other bytes, the same metadata", True, "The same metadata, and other bytes: the pictures weren't read.")
     OTHER_PICTURE = ("other picture", True, "Another picture; no difference in the metadata is known.")
     DAMAGED = ("damaged", None, "The second picture is damaged.")  # and no difference of the metadata is known
     DAMAGED_BEFORE = ("damaged before", None, "The first picture is damaged.")
@@ -60,7 +60,7 @@ class Result(Word):
     UNREADABLE_SAME = ("unreadable, the same bytes", False, "No difference: XMP is unreadable, and has the same bytes in both.", True)
     NOT_KNOWN = ("not known", None, "The metadata can't be fully compared: a file is damaged, and the missing part may have metadata.")
     NOT_WHOLLY_READ = ("not wholly read", None, "No field differs, but not everything was read.")
-    FILE_SAME = ("not read, the same bytes", False, "The same bytes, in a format that isn't read.")
+    FILE_SAME = ("not read, the same bytes", False, "The same bytes, and the metadata weren't read.")
     NO_PICTURE_SAME = ("no picture, the same bytes", False, "The same bytes, but the files are no pictures.", False, True)
     NOT_READ = ("not read", None, "The metadata can't be compared: a file was not read.")
     # Of a kind only

@@ -133,7 +133,7 @@ def word(data: bytes) -> str:
     >>> word(b"Museum\\x1b[1m\\0abc"), word(b"\\0")
     ('Museum[1m', '')
     """
-    return bytes(it for it in data.split(b"\0")[0][:12] if 32 < it < 127).decode("ascii")
+    return bytes(filter(range(33, 127).__contains__, data.split(b"\0")[0][:12])).decode("ascii")
 
 
 def digests(stream: Stream, parts: Iterable[Part]) -> dict[str, str]:

@@ -18,7 +18,7 @@ from .streams import Stream, leave_rest, read_at, size_of
 
 START = b"\x89PNG\r\n\x1a\n"
 _XMP_KEYWORD = b"xml:com.adobe.xmp"
-_PROFILE = b"raw profile type "
+_PROFILE = b"raw profile type "  # which is as long
 TEXTS = b"tEXt zTXt iTXt".split()
 PIXELS = frozenset(b"IHDR PLTE tRNS IDAT acTL fcTL fdAT".split())  # chunks of the coded picture
 _NAMES = {b"iCCP": PROFILE, b"caBX": CREDENTIALS}
@@ -61,9 +61,10 @@ def _class_of(stream: Stream, chunk: Chunk) -> tuple[str, str]:
     at, kind, length = chunk
     if kind in PIXELS:
         return PICTURE, ""
-    if kind == b"eXIf" or (kind in TEXTS and _is_metadata(stream, *chunk)):
+    text = read_at(stream, at + 8, min(length, len(_PROFILE))) if kind in TEXTS else b""
+    if kind == b"eXIf" or (text.lower() in (_XMP_KEYWORD, _PROFILE) and _is_metadata(stream, *chunk)):
         return METADATA, ""
-    return REST, _name_of(kind, read_at(stream, at + 8, min(length, 12)) if kind in TEXTS else b"")
+    return REST, _name_of(kind, text)
 
 
 def _name_of(kind: bytes, text: bytes = b"") -> str:
