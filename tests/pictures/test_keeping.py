@@ -94,4 +94,5 @@ def test_no_file_that_is_no_picture_may_go(name, pixels, folder, called):
     found = [it["keep"] if it["keep"] is not None else it["keep_note"].rpartition("; ")[2] for _, it in sorted(said.items())]
     assert found == expected
     text = called("same", "c")[1]
-    assert (NO_PICTURE in text, "may stay" in text, "index --pixels" in text) == (True, False, "a.jpg" in files and not pixels), text
+    is_said = "may belong to one, as an XMP file does" in text
+    assert (is_said, "may stay" in text, "index --pixels" in text) == (True, False, "a.jpg" in files and not pixels), text

@@ -1,7 +1,9 @@
 """Names of files in one line: no character controls a terminal, and different names are different."""
 
 import os
+import tempfile
 
+import pytest
 from hypothesis import given
 from hypothesis import strategies as st
 from exifnorm_pictures.model import texts
@@ -55,3 +57,19 @@ def test_controls_are_escaped():
     for character in "\0\x1b\x7f\x85\xa0\xad\u061c\u200b\u202e\u2028\u2029\u2066\u3000\ufeff\U000e0001":
         assert character not in texts.shown_path(character.encode())
         assert texts.shown_path(character.encode()).startswith("\\")
+
+
+WORDS = st.sampled_from(["a", "b", "ccccc", "..", ".", "", "-a", ".h", "a.b", "a.."])
+
+
+@given(st.sampled_from(["", "a", "a/b/ccccc"]), st.lists(WORDS, min_size=1, max_size=7), st.booleans())
+def test_a_path_from_the_current_folder(here, words, is_near):
+    """It leads where the path leads, and is no longer than the shortest one."""
+    with tempfile.TemporaryDirectory() as top, pytest.MonkeyPatch.context() as patch:
+        os.makedirs(os.path.join(top, here), exist_ok=True)
+        patch.chdir(os.path.join(top, here))
+        name = "/".join([top if is_near else "/b", *words])
+        shown = texts.near(name)
+        assert os.path.abspath(shown) == os.path.abspath(name)
+        assert len(shown) <= len("./") + min(map(len, (os.path.relpath(name), os.path.abspath(name))))
+        assert not shown.startswith("-") and (len(shown) < len(name) or shown == name)

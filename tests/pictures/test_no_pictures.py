@@ -43,6 +43,19 @@ def test_groups_of_files_come_last(archive, called_lines):
 
 
 @needs("exiftool")
+def test_what_is_true_of_all_other_files_is_said_once(folder, called_lines):
+    """On a folder of a system there are hundreds of such groups."""
+    put(folder / "p", {f"{where}/{text}": text.encode() for where in "ab" for text in ("one", "two")})
+    head = "2 files: no pictures, the same byte for byte:"
+    files = "2 groups of 4 files that are no pictures"
+    end = f"0 groups of 0 pictures, and {files}: each may belong to one, as an XMP file does"
+    called_lines("index", "p", "--catalogue", "c", "--quiet")
+    for words in ([], ["--no-look"]):
+        lines = called_lines("same", "c", *words)[1]
+        assert [it for it in lines if not it.startswith("  p/")] == [head, "", head, "", end], lines
+
+
+@needs("exiftool")
 def test_only_pictures_are_counted(archive, called_lines):
     status, lines, _ = called_lines("changed", "b", "a")
     assert (status, lines[0]) == (1, "2 pictures compared: none changed.")

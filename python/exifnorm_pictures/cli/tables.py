@@ -21,6 +21,7 @@ Cell = Union[str, bytes, int, float, None]
 
 # Excel and LibreOffice take these as the beginning of a formula, the wide ones in East Asian settings
 _FORMULA = re.compile(r'\A(?=[\t\n])|(?:\A|(?<=[;\t\n]))(?="*[=+\-@＝＋－＠])')
+_SIGN = re.compile(r"[\t\n=+\-@＝＋－＠]")  # without one no text is a formula
 _PLAIN = re.compile(r"(?![+\-])[\w .+\-]*", re.ASCII)  # most texts, which stay as they are
 _SPECIAL = re.compile(r'[,;\t\n"]')  # what separates cells or rows somewhere
 
@@ -31,7 +32,7 @@ def cell(text: str) -> str:
     >>> cell("=1+1"), cell("a;=1+1"), cell("a\x1bb"), cell("a\nb")
     ("'=1+1", "a;'=1+1", 'a\\x1bb', 'a\nb')
     """
-    return _FORMULA.sub("'", safe_lines(text))
+    return _FORMULA.sub("'", safe_lines(text)) if _SIGN.search(text) else safe_lines(text)
 
 
 class Table:

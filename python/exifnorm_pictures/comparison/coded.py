@@ -64,17 +64,14 @@ def coded_result(picture: PictureRecord, other: PictureRecord) -> tuple[Coded, s
 
 
 def _by_digests(picture: PictureRecord, other: PictureRecord) -> Coded:
-    is_same = bool(picture.sha256) and picture.sha256 == other.sha256
+    if picture.sha256 and picture.sha256 == other.sha256:
+        return Coded.SAME
     if not picture.coded_picture or not other.coded_picture:
         is_known = all((picture.sha256, other.sha256, picture.type != XMP_FILE))  # which has no picture
-        if is_same:
-            return Coded.SAME
-        if is_known:
-            return Coded.UNREAD
-        return Coded.UNKNOWN
+        return Coded.UNREAD if is_known else Coded.UNKNOWN
     if picture.coded_picture != other.coded_picture:
         return Coded.OTHER
-    return Coded.SAME if is_same or not rest.changes(picture.beside, other.beside) else Coded.BESIDE
+    return Coded.BESIDE if rest.changes(picture.beside, other.beside) else Coded.SAME
 
 
 def _damaged(picture: PictureRecord, other: PictureRecord) -> tuple[Coded, str]:

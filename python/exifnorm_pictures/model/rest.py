@@ -7,6 +7,7 @@ the text has lengths in place of digests, of the parts whose lengths a reader of
 from __future__ import annotations
 
 import hashlib
+from functools import lru_cache
 from typing import Generic, Sequence, TypeVar
 
 MOST, LONGEST = 20, 200  # names of a file, and characters of a name
@@ -42,14 +43,25 @@ def text_of(digests: dict[str, str]) -> str:
     return "\n".join(lines)
 
 
+@lru_cache(100)  # texts of pictures that are compared with each other come again and again
 def names_in(text: str | None) -> dict[str, str]:
-    """The digests by name.
+    """The digests by name, which nobody changes.
 
     >>> names_in("1e colour profile\\n comment")
     {'colour profile': '1e', 'comment': ''}
     """
     lines = (line.partition(" ") for line in (text or "").split("\n") if line)
     return {name: digest for digest, _, name in lines}
+
+
+@lru_cache(100)
+def counting_lines(text: str | None) -> frozenset[str]:
+    """The lines of the parts that count.
+
+    >>> counting_lines("1e colour profile\\n0f JFIF")
+    frozenset({'1e colour profile'})
+    """
+    return frozenset(f"{digest} {name}" for name, digest in names_in(text).items() if not is_by_programs(name))
 
 
 def changes(before: str | None, after: str | None) -> list[str]:
@@ -63,17 +75,14 @@ def changes(before: str | None, after: str | None) -> list[str]:
     if before is None or after is None:
         return []
     old, new = names_in(before), names_in(after)
-    kept = set(old) & set(new) | {FURTHER}
-    names = sorted({**old, **new})
-    if FURTHER in names:
-        names = [*sorted(kept - {FURTHER}), FURTHER]
-    found = []
-    for name in names:
-        if old.get(name) == new.get(name) == "":
-            found.append(f"{name} {TOO_LARGE}")
-        elif old.get(name) != new.get(name):
-            found.append(f"{name} {'changed' if name in kept else 'removed' if name in old else 'added'}")
-    return found
+    kept = old.keys() & new.keys() | {FURTHER}
+    differ = {it for it, _ in old.items() ^ new.items()}
+    if FURTHER in {**old, **new}:
+        differ &= kept
+    fates = {it: "changed" if it in kept else "removed" if it in old else "added" for it in differ}
+    fates |= {it: TOO_LARGE for it in kept if old.get(it) == new.get(it) == ""}
+    in_order = sorted(fates.items(), key=lambda it: (it[0] == FURTHER, it))
+    return list(map(" ".join, in_order))
 
 
 def is_by_programs(name: str) -> bool:
@@ -94,15 +103,6 @@ def counting(found: Sequence[str]) -> list[str]:
     return [it for it in found if it.endswith(TOO_LARGE) or not is_by_programs(it.rpartition(" ")[0])]
 
 
-def count(text: str | None) -> int:
-    """How many parts count.
-
-    >>> count("1e colour profile\\n0f JFIF")
-    1
-    """
-    return sum(not is_by_programs(name) for name in names_in(text))
-
-
 T = TypeVar("T")
 
 
@@ -116,13 +116,12 @@ class Fullest(Generic[T]):
 
     def __init__(self) -> None:
         self._found: dict[str | None, T] = {}
-        self._with: dict[str, list[tuple[T, set[str]]]] = {}  # the files that have a line, and all of their lines
+        self._with: dict[str, list[tuple[T, frozenset[str]]]] = {}  # the files that have a line, and all of their lines
 
     def has_all_of(self, file: T, text: str | None) -> T:
         """The first one that has all parts of a file with this text: itself, if there is no other."""
         if text not in self._found:
-            lines = {""}  # which each file has
-            lines.update(f"{digest} {name}" for name, digest in names_in(text).items() if not is_by_programs(name))
+            lines = counting_lines(text) | {""}  # which each file has
             is_known = not any(it.startswith(" ") for it in lines)  # a part without a digest equals none
             candidates = min((self._with.get(it, []) for it in lines), key=len) if is_known else []
             first = next((one for one, others in candidates if lines <= others), None)

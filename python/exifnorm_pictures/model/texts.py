@@ -8,6 +8,7 @@ from __future__ import annotations
 import os
 import re
 from contextlib import suppress
+from functools import lru_cache
 from types import TracebackType
 from typing import Any
 
@@ -95,10 +96,19 @@ def near(path: bytes | str) -> str:
     """
     name = os.fsdecode(path)
     with suppress(OSError):  # the current folder is gone
-        name = name.removeprefix(os.path.join(os.getcwd(), ""))
-        if name.startswith(("/", ".")):
-            name = min(os.path.relpath(name), os.path.abspath(name), key=len)
+        here = os.getcwd()
+        folder, _, file = name.rpartition("/")
+        is_odd = "//" in f"{name}/" or "/." in name or f"{here}/".startswith(f"{name}/")
+        if folder.startswith("/") and not is_odd:
+            name = f"{_nearest(folder, here)}/{file}".removeprefix("./")
+        elif name.startswith(("/", ".")):
+            name = _nearest(name, here)
     return f"./{name}" if name.startswith("-") else name  # which no program takes for an option
+
+
+@lru_cache(100)  # the folders of many pictures
+def _nearest(path: str, here: str) -> str:
+    return min(os.path.relpath(path, here), os.path.abspath(path), key=len)
 
 
 def shown_path(path: bytes | str) -> str:

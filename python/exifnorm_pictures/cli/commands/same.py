@@ -61,7 +61,7 @@ class _Listed:
         self.pictures[what] += group.count
         self.bases[group.basis] += group.are_pictures
         self.partial += group.shared.is_partial
-        self.results.update([group.result] if group.result else [])
+        self.results.update(filter(None, [group.result]))
         number = sum(self.groups.values())
         keeps = keeping(group, bool(self._is_json or self.table)) if self._has_keep else {}
         if self._is_json:
@@ -77,9 +77,9 @@ class _Texts:
     """The texts of the labels of --columns and --differ, of each picture that is listed."""
 
     def __init__(self, catalogue: Catalogue, columns: str | None, differ: str | None, run: Run, is_json: bool) -> None:
-        self._label = given_label(differ) if differ else None
+        self.label = given_label(differ) if differ else None  # in which pictures have to differ
         asked = listed_texts.labels_in(columns) if columns else []
-        self.labels = list(dict.fromkeys([*asked, *([] if self._label is None else [self._label])]))
+        self.labels = list(dict.fromkeys([*asked, *filter(None, [self.label])]))
         self.alike = 0  # groups that aren't listed
         self.not_known = 0  # those of them that may differ, because a picture was not wholly read
         self.has_unread = False  # whether a text of one that is listed isn't known
@@ -89,26 +89,21 @@ class _Texts:
 
             self._answer = asking.Answer(catalogue, None, None, Preparing(run).report, self.labels, not is_json)
 
-    @property
-    def has_label(self) -> bool:
-        """Whether pictures have to differ in a label."""
-        return self._label is not None
-
     def of(self, picture: PictureRecord) -> Texts:
         """The texts of a picture, for each label."""
         texts = self._answer.texts_of(picture.id, self.labels) if self._answer else []
-        self.has_unread = self.has_unread or None in texts
+        self.has_unread |= None in texts
         return texts
 
     def differ_in(self, group: Group) -> bool:
         """Whether the pictures of a group have other texts of the label that they have to differ in, if there is one."""
-        if self._label is None or self._answer is None:
+        if self.label is None or self._answer is None:
             return True
-        at = self.labels.index(self._label)
+        at = self.labels.index(self.label)
         if len({frozenset(map(folded, self.of(picture)[at] or ())) for picture in group.members}) > 1:
             return True
         self.alike += 1
-        self.not_known += any(self._answer.may_have(one.id, self._label) for one in group.members)
+        self.not_known += any(self._answer.may_have(one.id, self.label) for one in group.members)
         return False
 
     def end(self) -> Iterator[str]:
@@ -116,7 +111,7 @@ class _Texts:
         if self.alike:
             groups = "1 group isn't listed: its" if self.alike == 1 else f"{self.alike:,} groups aren't listed: their"
             may = f"; of {self.not_known:,} that isn't sure, because a picture was not wholly read" if self.not_known else ""
-            yield f"{groups} pictures have the same {self._label}{may}"
+            yield f"{groups} pictures have the same {self.label}{may}"
         if self.has_unread:
             yield "Where a text is not known, the picture was not wholly read"
 
@@ -206,7 +201,8 @@ Keeps = dict[int, Keep]  # by the number of a picture; empty if no file was look
 def _totals(listed: _Listed, groups: Groups, left: _Left, least_fields: int) -> Iterator[str]:
     count, files = listed.groups["pictures"], listed.groups["files"]
     yield from [""] * (count + files > 1)
-    more = f", and {in_words(files, 'group')} of {listed.pictures['files']} files that are no pictures" if files else ""
+    others = f"{in_words(files, 'group')} of {listed.pictures['files']} files that are no pictures"
+    more = f", and {others}: each may belong to one, as an XMP file does" if files else ""
     yield f"{in_words(count, 'group')} of {listed.pictures['pictures']} pictures{_of_bases(listed)}{more}"
     if groups.small:
         are = "are" if groups.small > 1 else "is"
@@ -223,7 +219,7 @@ def _totals(listed: _Listed, groups: Groups, left: _Left, least_fields: int) -> 
 
 def _of_bases(listed: _Listed) -> str:
     """How many groups rest on what, unless all rest on what was asked for."""
-    counts = {basis: count for basis, count in listed.bases.items() if count}
+    counts = +listed.bases
     return ": " + ", ".join(f"{count} {_BY[basis]}" for basis, count in counts.items()) if counts.keys() & _WEAKER.keys() else ""
 
 
@@ -252,8 +248,8 @@ def _compared_files(kind: str, groups: Groups) -> Iterator[str]:
     """How many pictures or files were compared by digests, and how many weren't."""
     if kind == PIXELS:
         counts = coded_pictures(groups.catalogue, groups.only)
-        their = "its" if counts.compared == 1 else "their"
-        yield f"{pictures_in_words(counts.compared)} compared by the data that {their} pixels are decoded from"
+        what = f"the data that {'its' if counts.compared == 1 else 'their'} pixels are decoded from"
+        yield f"{pictures_in_words(counts.compared)} compared by {what}"
         if counts.other:
             yield f"{pictures_in_words(counts.other)} not compared: their format has no digest of the picture"
         if counts.damaged:
@@ -296,10 +292,11 @@ def _print_lines(group: Group, number: int, keeps: Keeps, texts: _Texts) -> None
 
 def _print_of_all(group: Group, of_all: str) -> None:
     """What is true of all pictures of a group, and the files that aren't counted."""
-    print_lines(f"    all: {reason}" for reason in set(group.reasons.values()) if reason and _have_one_reason(group))
-    print_lines([f"    {of_all}"] * bool(of_all))
-    for what, paths in (("gone", group.files.gone), ("changed since it was indexed", group.files.changed)):
-        print_lines(f"    not counted, {what}: {shown_path(path)}" for path in paths)
+    if group.are_pictures:  # what is true of all other files is said at the end
+        print_lines(f"    all: {reason}" for reason in set(group.reasons.values()) if reason and _have_one_reason(group))
+        print_lines([f"    {of_all}"] * bool(of_all))
+    absent = list(_not_counted(group))[len(group.files.links) :]
+    print_lines(f"    {note}: {shown_path(path)}" for path, note in absent)
 
 
 def _have_one_reason(group: Group) -> bool:
@@ -319,7 +316,7 @@ def _of_all(group: Group, keeps: Keeps) -> str:
     if keeps and all(one.why == NO_PICTURE for one in keeps.values()):
         return f"all: {NO_PICTURE}"
     goes = sum(one.keep is False for one in keeps.values())
-    are_the_same = goes == group.count - 1 > 0 and len({it.beside for it in group.members}) == 1
+    are_the_same = goes == group.count - 1 and len({it.beside for it in group.members}) == 1
     return _ALL_THE_SAME if are_the_same else ""
 
 
@@ -338,7 +335,7 @@ def _print_rows(table: Table, number: int, group: Group, keeps: Keeps, texts: _T
     """A row for each picture, and one without a word on keeping for each file that doesn't count."""
     about = (number, group.count, sentence_of(group), group.basis)
     for picture in group.members:
-        keep = keeps.get(picture.id, _without_advice(picture))
+        keep = keeps.get(picture.id) or _without_advice(picture)
         cells = listed_texts.cells(texts.labels, texts.of(picture))
         table.row(*about, picture.path, None if keep.keep is None else int(keep.keep), _note(group, picture, keep), *cells)
     for path, note in _not_counted(group):
@@ -371,7 +368,7 @@ def _summary(listed: _Listed, groups: Groups, left: _Left) -> Members:
     totals.update(undecided_parts=left.but_for_parts, after_repair=left.after_repair)
     missing = {"small_groups": groups.small, "absent_groups": groups.absent, "maker_notes_unknown": left.but_for_notes}
     texts = listed.texts
-    alike = {"alike": texts.alike, "alike_not_known": texts.not_known} if texts.has_label else {}
+    alike = {"alike": texts.alike, "alike_not_known": texts.not_known} if texts.label else {}
     return {**totals, **missing, **alike, **members_of(listed.choice)}
 
 

@@ -4,9 +4,10 @@ from __future__ import annotations
 
 import os
 from dataclasses import dataclass, field
+from operator import itemgetter
 from typing import Iterator, NamedTuple
 
-from ...model.found import EXIF, KINDS
+from ...model.found import KINDS
 from ...model.problems import Problem
 from ...model.records import PictureRecord
 from ...model.results import Result
@@ -103,20 +104,19 @@ class Group:
     @property
     def digests(self) -> dict[str, str]:
         """The digest of each kind that they have, as far as it is known."""
-        first, digests = self.members[0], {}
         if self.shared.is_partial or self.basis in OTHERS:  # no digest is of what they have in common
             return {}
-        for kind, digest in zip(KINDS, first.meanings):
-            if kind in self.shared.kinds and digest != "":
-                digests[kind] = digest or (first.exif_repaired if kind == EXIF and self.basis == Basis.REPAIR else "") or ""
-        return digests
+        first = self.members[0]
+        repaired = self.basis == Basis.REPAIR and first.exif_repaired or ""
+        known = zip(KINDS, first.meanings)
+        return {kind: digest or repaired for kind, digest in known if kind in self.shared.kinds and digest != ""}
 
     @property
     def same_bytes(self) -> bool:
         """Whether their blocks are the same byte for byte."""
-        at = [KINDS.index(it) for it in self.shared.kinds]
-        first = self.members[0].octets
-        return all(it.octets[number] == first[number] for it in self.members for number in at)
+        of_kinds = itemgetter(*map(KINDS.index, self.shared.kinds))
+        first = of_kinds(self.members[0].octets)
+        return all(of_kinds(it.octets) == first for it in self.members)
 
     @property
     def is_wholly_read(self) -> bool:

@@ -26,10 +26,9 @@ def sentence_of(group: Group) -> str:
 
 
 def _of_files(group: Group) -> str:
-    same = "the same byte for byte"
     if not group.are_pictures:
-        return f"no pictures, {same}"
-    return f"the files are {same}, and not read ({group.members[0].problem or group.not_read})"
+        return "no pictures, the same byte for byte"
+    return f"the files are the same byte for byte, and not read ({group.members[0].problem or group.not_read})"
 
 
 def _of_kinds(group: Group) -> str:
@@ -54,8 +53,10 @@ def _state(group: Group, kind: str) -> Result | None:
         return Result.REFUSED
     if group.members[0].meanings[at]:
         return Result.SAME
-    lost = lost_kinds(group.members[0].type, group.not_read.split(", "))
-    return None if group.shared.has_choice else Result.NOT_KNOWN if kind in lost else Result.ABSENT
+    if group.shared.has_choice:
+        return None
+    lost = lost_kinds(group.members[0].type, group.not_read.split(", ")) if group.not_read else ()
+    return Result.NOT_KNOWN if kind in lost else Result.ABSENT
 
 
 def _refused(group: Group, kind: str) -> str:

@@ -9,6 +9,7 @@ same place in blocks with the same bytes.
 from __future__ import annotations
 
 import os
+import sys
 from typing import Iterable, Iterator, NamedTuple, Sequence
 
 from ...catalogue.store import Catalogue, PICTURE_COLUMNS
@@ -175,10 +176,7 @@ def _add_details(catalogue: Catalogue, group: Group) -> None:
     if group.members[0].not_read != "" and group.basis not in OTHERS:
         group.not_read = ", ".join(each_kind(it.what for it in catalogue.not_read_of(group.members[0])))
     if group.basis.has_reasons:
-        texts: dict[str, str] = {}
-        for picture in group.members:
-            reason = _reason(catalogue, picture, group.basis)
-            group.reasons[picture.id] = texts.setdefault(reason, reason)
+        group.reasons = {it.id: sys.intern(_reason(catalogue, it, group.basis)) for it in group.members}
 
 
 def _class_of(picture: PictureRecord, kinds: Sequence[str]) -> tuple[object, ...]:
@@ -231,8 +229,8 @@ class CodedPictures(NamedTuple):
 def coded_pictures(catalogue: Catalogue, only: str | None = None) -> CodedPictures:
     """The pictures of a catalogue by what is known of their coded pictures. A file of XMP shows nothing."""
     conditions = ("!= ''", "= '' AND damage = '' AND type IS NOT 'XMP'", "= '' AND damage != ''", "IS NULL")
-    compared, other, damaged, not_requested = (_number_of(catalogue, f"problem IS NULL AND coded_picture {it}", only) for it in conditions)
-    return CodedPictures(compared, other, damaged, not_requested, _number_of(catalogue, _UNREAD, only))
+    counts = (_number_of(catalogue, f"problem IS NULL AND coded_picture {it}", only) for it in conditions)
+    return CodedPictures._make([*counts, _number_of(catalogue, _UNREAD, only)])
 
 
 def _among(only: str | None) -> str:
@@ -367,7 +365,7 @@ def _shrunk(picture: PictureRecord, before: Sequence[PictureRecord]) -> PictureR
     all pictures of an archive, and is in memory."""
     picture = picture._replace(modified=None, changed=None, inode=None, device=None, sidecars="")
     for other in before:
-        picture = PictureRecord._make(theirs if theirs == ours else ours for ours, theirs in zip(picture, other))
+        picture = PictureRecord._make([theirs if theirs == ours else ours for ours, theirs in zip(picture, other)])
     return picture
 
 

@@ -54,8 +54,7 @@ class _Equals(NamedTuple):
 
     pictures: Sequence[PictureRecord]
     stays_for: dict[int, PictureRecord]  # by the number of each: the first whose file has all of its parts
-    differs: dict[int, PictureRecord]  # by the number of one that stays: the first that goes for it and lacks parts that count
-    goes: dict[int, int]  # by the number of one that stays: how many go for it
+    goes: dict[int, list[PictureRecord]]  # by the number of one that stays: those that go for it
     has_equal_bytes: bool
 
 
@@ -64,7 +63,7 @@ def keeping(group: Group, reads: bool = True) -> dict[int, Keep]:
     a picture is in, the one that stays is no later one, and a chain of groups ends at a picture that stays. One whose file has more
     parts comes first, as it may stay for one that lacks some. `reads` reads files with equal sizes."""
     members = list(filter(_is_picture, group.members))
-    members.sort(key=lambda it: (-rest.count(it.beside), it.path))
+    members.sort(key=lambda it: (-len(rest.counting_lines(it.beside)), it.path))
     keys = _keys(members, reads)
     equal: dict[_Key, list[PictureRecord]] = {}
     for picture in members:
@@ -96,13 +95,12 @@ def _equals(key: _Key, pictures: Sequence[PictureRecord]) -> _Equals:
     is_file = key[0] == "file"
     fullest: rest.Fullest[PictureRecord] = rest.Fullest()
     stays_for = {it.id: pictures[0] if is_file else fullest.has_all_of(it, it.beside) for it in pictures}
-    differs: dict[int, PictureRecord] = {}
-    goes = Counter(stays_for[it.id].id for it in pictures if stays_for[it.id] is not it)
+    goes: dict[int, list[PictureRecord]] = {}
     for it in pictures:
-        if rest.counting(rest.changes(it.beside, stays_for[it.id].beside)):
-            differs.setdefault(stays_for[it.id].id, it)
-    has_equal_bytes = is_file or (len({it.sha256 for it in pictures}) == 1 and bool(pictures[0].sha256))
-    return _Equals(pictures, stays_for, differs, goes, has_equal_bytes)
+        if stays_for[it.id] is not it:
+            goes.setdefault(stays_for[it.id].id, []).append(it)
+    has_equal_bytes = is_file or len({it.sha256 or it.id for it in pictures}) == 1
+    return _Equals(pictures, stays_for, goes, has_equal_bytes)
 
 
 def _keep(picture: PictureRecord, key: _Key, equals: dict[_Key, _Equals], damage: str, has_unknown: bool) -> Keep:
@@ -120,11 +118,11 @@ def _of_equal(picture: PictureRecord, same: _Equals) -> Keep:
     first = same.stays_for[picture.id]
     if picture is not first:
         return Keep(False, same_as=first.path)
-    if not same.goes.get(picture.id):
+    if picture.id not in same.goes:
         other = next(it for it in same.pictures if it is not picture)
         return Keep(why=OTHER_PARTS.format(", ".join(rest.changes(other.beside, picture.beside))))
-    if picture.id in same.differs:
-        more = rest.counting(rest.changes(same.differs[picture.id].beside, picture.beside))
+    changes = (rest.changes(it.beside, picture.beside) for it in same.goes[picture.id])
+    if more := next(filter(None, map(rest.counting, changes)), None):
         return Keep(True, HAS_MORE.format(", ".join(more)))
     return Keep(True, "" if same.has_equal_bytes else NOT_ALL)
 
