@@ -6,7 +6,6 @@ import json
 import os
 import re
 import sqlite3
-import subprocess
 from pathlib import Path
 
 import pytest
@@ -62,30 +61,6 @@ def asked(base, query, *values):
 
 
 @needs("exiftool")
-def test_positions_are_decimals(run, exported, folder):
-    """Each table has the position that ExifTool writes and reads as numbers, from Exif and from XMP, on all sides of the earth."""
-    places = {"a": (51.5, -0.12), "b": (-33.856784, 151.215297), "c": (0, 0), "d": (-77.85, -166.666667), "e": (90, 180)}
-    put(folder, {f"p/{name}.jpg": SMALL_JPEG for name in (*places, "none")})
-    for at, (name, (north, east)) in enumerate(places.items()):
-        group = ("EXIF", "XMP-exif")[at % 2]
-        words = [f"-{group}:GPSLatitude={north}", f"-{group}:GPSLongitude={east}"]
-        words += [f"-GPSLatitudeRef={'NS'[north < 0]}", f"-GPSLongitudeRef={'EW'[east < 0]}"] if group == "EXIF" else []
-        tool(folder, "exiftool", "-q", "-overwrite_original", *words, f"p/{name}.jpg")
-    rows = exported("p").execute("SELECT path, latitude, longitude FROM pictures")
-    tables = {"export": {os.path.basename(path)[:-4]: (north, east) for path, north, east in rows}}
-    for words in ("show --captions p", "show --captions c", "list c --columns position"):
-        rows = csv.DictReader(io.StringIO(run(*words.split(), "--csv")))
-        tables[words] = {
-            os.path.basename(row["picture"])[:-4]: tuple(float(it) if it else None for it in (row["latitude"], row["longitude"]))
-            for row in rows
-        }
-    for words, found in tables.items():
-        assert found.pop("none") == (None, None) and found.keys() == places.keys(), words
-        for name, place in places.items():
-            assert found[name] == pytest.approx(place, abs=1e-6), (words, name)
-
-
-@needs("exiftool")
 def test_small_angles_have_the_form_of_others(run, folder):
     """A position near the equator or near Greenwich has no exponent, on a line and in each table."""
     north, east = 0.00001, -0.000012
@@ -100,32 +75,6 @@ def test_small_angles_have_the_form_of_others(run, folder):
     for words, text in texts.items():
         (place,) = re.findall(r"(-?[0-9.]+), (-?[0-9.]+)$", text, re.M)
         assert tuple(map(float, place)) == (north, east), words
-
-
-@needs("exiftool")
-def test_the_samples(exported):
-    base = exported(SAMPLES)
-    names = "IFD0:Make IFD0:Artist IFD0:Copyright ExifIFD:ISO IPTC:Keywords IPTC:Caption-Abstract XMP-dc:Subject".split()
-    words = ["exiftool", "-config", "", "-r", "-j", "-G1", "-a", *(f"-{it}" for it in names), SAMPLES]
-    for it in json.loads(subprocess.run(words, capture_output=True, check=True).stdout):
-        path = os.path.abspath(it.pop("SourceFile"))
-        for name, value in it.items():
-            found = asked(
-                base, "SELECT value FROM fields JOIN pictures ON id = picture WHERE path = ? AND lower(name) = lower(?)", path, name
-            )
-            assert "; ".join(one for one, in found) == ("; ".join(value) if isinstance(value, list) else str(value)), (path, name)
-    labels = {"IPTC:ObjectName": "title", "XMP-dc:Title": "title", "IPTC:Caption-Abstract": "caption", "XMP-dc:Description": "caption"}
-    words = ["exiftool", "-config", "", "-r", "-j", "-G1", "-a", *(f"-{it}" for it in labels), SAMPLES]
-    expected = {
-        (os.path.abspath(it["SourceFile"]), labels[name], str(value))
-        for it in json.loads(subprocess.run(words, capture_output=True, check=True).stdout)
-        for name, value in it.items()
-        if name != "SourceFile"
-    }
-    query = (
-        "SELECT path, label, text FROM captions JOIN pictures ON id = picture WHERE label IN ('title', 'caption') AND standard <> 'Exif'"
-    )
-    assert set(asked(base, query)) == expected
 
 
 def test_files(exported, folder):

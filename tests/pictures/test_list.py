@@ -390,31 +390,6 @@ def test_since(folder, called, asked, monkeypatch):
         assert status == 4 and "list CATALOGUE --since 2026-11-20" in messages
 
 
-def test_damage(folder, called, asked):
-    """It is known of files whose pictures were read, by how they were made, and of those that are cut off; nobody looks into a GIF."""
-    texts = [("title", "A")]
-    put(folder / "p", {"whole.jpg": picture(texts), "cut.jpg": picture(texts)[:-20], "other.gif": gif(), "d.txt": b"no picture"})
-    called("index", "p", "--catalogue", "plain", "--quiet")
-    status, printed, _ = called("list", "plain", "--with", "damage", "--columns", "damage")
-    assert (status, printed.splitlines()[-1] + "\n") == (2, "1 of 3 pictures, 1 of them cut off or damaged; 2 more may fit" + UNREAD)
-    called("index", "p", "--catalogue", "c", "--pixels", "--quiet")
-    found, status, last = asked("--with", "damage")
-    assert (found, status, last["not_known"]) == (["cut.jpg"], 2, 1)
-    assert asked("--without", "damage")[:2] == (["whole.jpg"], 2)
-    assert asked("--where", "title = A and not damage has 'end mark'")[0] == ["whole.jpg"]
-    status, printed, _ = called("list", "p", "--with", "damage", "-0")
-    assert (status, printed) == (2, f"{folder}/p/cut.jpg\0")
-    (folder / "rules").write_text("damage never\n")
-    status, printed, _ = called("check", "p", "--rules", "rules")
-    assert (status, re.findall(r"\w+\.(?:jpg|gif)", printed)) == (2, ["cut.jpg", "other.gif"])
-
-
-UNREAD = (
-    ": their pictures were not read for damage; index --pixels reads those of JPEG, PNG, TIFF, WebP, HEIC, AVIF, JPEG XL and raw files like"
-    " TIFF, as DNG, and no command others\n"
-)
-
-
 # Wrong questions
 
 

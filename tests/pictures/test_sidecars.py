@@ -4,12 +4,10 @@ Which file belongs to which picture is what the manuals of darktable (NAME.EXT.x
 (NAME.xmp of raw pictures) say.
 """
 
-import contextlib
 import itertools
 import json
 import os
 import shutil
-import sqlite3
 
 import pytest
 from made_files import A, app1, app1_xmp, jpeg, title, xmp
@@ -280,23 +278,3 @@ def test_a_picture_whose_title_is_beside_it_is_listed_with_a_note(called, folder
             _, printed, messages = called(name, *(it.format(place) for it in line), *more)
             assert ("1 XMP file counts as a file of its own" in printed + messages) == is_noted, (name, place, more)
             assert (name, *line) in others or ("a.jpg" in printed) == (not more), printed
-
-
-def test_a_sidecar_counts_in_each_answer(folder, called):
-    """Of one catalogue each command knows the creator of the sidecar."""
-    from test_list import picture
-
-    put(folder / "p", {"a.jpg": picture([("creator", "Anna")])})
-    (folder / "p" / "a.xmp").write_bytes(xmp("<dc:creator><rdf:Seq><rdf:li>Ben</rdf:li></rdf:Seq></dc:creator>"))
-    (folder / "rules").write_text("creator is Anna")
-    called("index", "p", "--sidecars", "--catalogue", "c", "--quiet")
-    called("catalogue", "export", "c", "c.sqlite")
-    called("report", "c", "--html", "page.html")
-    rows = contextlib.closing(sqlite3.connect("c.sqlite"))
-    with rows as base:
-        texts = {row[0] for row in base.execute("SELECT text FROM captions WHERE label = 'creator'")}
-        assert texts == {"Anna", "Ben"} and base.execute("SELECT label FROM conflicts").fetchall() == [("creator",)]
-    asked = ("list {} --columns creator", "list {} --count creator", "check --rules rules {}", "check {}", "show --captions {}")
-    for words in asked:
-        assert "Ben" in called(*words.format("c").split())[1], words
-    assert "Ben" in (folder / "page.html").read_text("utf-8")

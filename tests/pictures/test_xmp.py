@@ -17,7 +17,6 @@ from hypothesis import assume, given, settings
 from made_files import SPACES, title, xmp
 from packets import packets
 from studio import TESTS_PATH, needs
-from exifnorm_pictures.fields import xmp_properties
 
 RDF = "http://www.w3.org/1999/02/22-rdf-syntax-ns#"
 
@@ -224,33 +223,6 @@ class Packets(unittest.TestCase):
         )  # RFC 4648, 8: in letters of either kind
         self.assertEqual(cause(asking), "ExtensionMissing")
         self.assertEqual(cause(asking, {name: more + b" "}), "ExtensionDamaged")
-
-    def test_properties_are_named(self):
-        from exifnorm_pictures import xmp as reading
-        from exifnorm_pictures.comparison.differing import bare, differences
-        from exifnorm_pictures.fields import listing
-
-        def fields(packet):
-            return xmp_properties.fields_of_statements(reading.statements(packet, reading.Extensions({}), set()))
-
-        one = fields(xmp("<dc:format>one</dc:format><dc:subject><rdf:Bag><rdf:li>b</rdf:li><rdf:li>a</rdf:li></rdf:Bag></dc:subject>"))
-        other = fields(xmp("<dc:format>two</dc:format><dc:subject><rdf:Bag><rdf:li>a</rdf:li><rdf:li>b</rdf:li></rdf:Bag></dc:subject>"))
-        found = [(it.name, bare(it.before), bare(it.after)) for it in differences(one, other)]
-        self.assertEqual(found, [("XMP-dc:format", '"one"', '"two"')])
-        self.assertEqual((one[1]._identity[1:4], listing.exact(one[1])), (("dc:subject", "Bag", 2), 'Bag["a", "b"]'))
-        lines = list(listing.readable(one, "xmp"))
-        self.assertEqual([it.split() for it in lines[1:3]], [["[XMP]"], ["dc:format", "text", '"one"']])
-        long = [listing.exact(fields(title("x" * 100_000 + it))[0]) for it in "ab"]
-        self.assertNotEqual(*long)
-        self.assertLess(len(long[0]), 200)
-        control = listing.exact(fields(title("a&#10;b\u202e"))[0])
-        self.assertEqual(control, '"a\\nb\\u202e"')
-        quoted = listing.exact(fields(title('one", "two'))[0])
-        self.assertEqual(quoted, '"one\\", \\"two"')
-        doubled = [fields(xmp(f"<dc:format>{one_}</dc:format><dc:format>{other_}</dc:format>")) for one_, other_ in ("ab", "ba")]
-        self.assertNotEqual(doubled[0], doubled[1])  # XMP allows a property once; of several, readers take the first or the last
-        words = [f"w{number}" for number in range(12)]
-        self.assertEqual(listing.exact(fields(array("Seq", *words))[0]), "Seq[" + ", ".join(f'"{it}"' for it in words) + "]")
 
 
 class Harm(unittest.TestCase):
