@@ -9,19 +9,22 @@ import pytest
 from hypothesis import given, settings
 from hypothesis import strategies as st
 from made_blocks import ASCII, LONG, SHORT, segment
-from made_boxes import PICTURE as CODED, XMP_UUID, Item, box, full, heif, item_exif, jxl, mime
+from made_boxes import PICTURE as CODED, XMP_UUID, Item, box, cr3, full, heif, item_exif, jp2, jxl, mime
 from made_files import Placed, app1, app1_xmp, app13, chunk, exif, iim, jpeg, mpf, page, png, png_xmp, profile, resource, tiff, title, webp
-from made_more_files import application, gif
+from made_more_files import application, gif, gif_xmp, psd
 from made_raw import MAKERS, camera_profile, dng, srw
 from studio import SMALL_JPEG, put
 from test_bigtiff import IFD8, LONG8, big, fields
 from test_mutations import mutated
 
+from exifnorm_pictures.comparison import two_pictures
 from exifnorm_pictures.extract import coded_picture, readers
 from exifnorm_pictures.extract.formats import parts
+from exifnorm_pictures.files.session import Session
 from exifnorm_pictures.model import budgets, rest
 from exifnorm_pictures.model.budgets import Budget, TooMuch
 from exifnorm_pictures.model.found import Broken
+from exifnorm_pictures.scan.batches import How
 
 A, T, K = exif(b"abc"), title("one"), iim(b"one")
 PATH, FLAG = resource(0x07D0, bytes(26)), resource(0x040A, b"\1")
@@ -127,6 +130,35 @@ def test_no_byte_is_outside(name):
     assert {it.kind for it in found} >= {parts.PICTURE, parts.STRUCTURE}
     compared = [at for it in found if it.kind != parts.STRUCTURE for at in range(it.start, it.end)]
     assert [at for at in compared if seen(octets[:at] + bytes([octets[at] ^ 1]) + octets[at + 1 :]) == known] == []
+
+
+# Files of formats without a digest of the coded picture: all that isn't read is compared as one
+WHOLE_FILES = {
+    "gif": gif(gif_xmp(T), behind=b"video"),
+    "psd": psd(resource(0x0424, T), PATH, layers=b"layers", behind=b"video"),
+    "jp2": jp2(box(b"uuid", XMP_UUID, T), behind=b"video"),
+    "cr3": cr3(box(b"CMT1", A), packet=T),
+    **{kind: MAKERS[kind]() for kind in ("orf", "raf", "rw2")},
+}
+
+
+@pytest.mark.parametrize("kind", WHOLE_FILES)
+def test_no_byte_is_outside_of_a_format_whose_pictures_are_not_read(kind, folder, called):
+    """Whatever one byte makes of a file: nobody says that it is the same, and no other one goes
+    for it."""
+    octets = WHOLE_FILES[kind]
+    changed = [octets[:at] + bytes([octets[at] ^ 1]) + octets[at + 1 :] for at in range(len(octets))]
+    put(folder / "p", {f"{at:04}.{kind}": it for at, it in enumerate([octets, *changed])})
+    with Session(programs=False) as session:
+        how = How(pixels=True, programs=False)
+        names = (bytes(folder / "p" / f"{at:04}.{kind}") for at in range(len(octets) + 1))
+        whole, *others = (two_pictures.read(it, how, session)[0] for it in names)
+    assert not whole.problem and not whole.coded_picture
+    results = [two_pictures.compare(whole, it, None).result for it in others]
+    assert [(at, it) for at, it in enumerate(results) if it.has_changed is False] == []
+    called("index", "p", "--catalogue", "c", "--quiet", "--pixels", "--no-programs")
+    rows = csv.DictReader(called("same", "c", "--csv")[1].splitlines())
+    assert [it for it in rows if it["keep"] == "0"] == []
 
 
 NAMED = {
