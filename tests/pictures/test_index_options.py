@@ -6,7 +6,6 @@ import sqlite3
 from unittest import mock
 
 import pytest
-from made_blocks import BLOCKS
 from made_files import app1, exif, jpeg
 from studio import needs, put
 from test_maker_notes import noted
@@ -80,28 +79,6 @@ def test_excluded_pictures_of_an_earlier_run_stay(archive, called):
 def test_a_picture_that_is_named_is_excluded_by_its_name(archive, called):
     out = called("index", "p/a.jpg", "p/a.tmp", "--catalogue", "c", "--quiet", "--exclude", "*.tmp")[1]
     assert (out, set(known(archive))) == ("1 accepted, 1 excluded\n", {b"a.jpg"})
-
-
-def test_what_to_do_next(folder, called):
-    put(
-        folder,
-        {
-            **{f"p/{name}": octets for name, octets in {"a": ONE, "b": ONE, "c": OTHER, "d": OTHER, "e": jpeg(app1(exif(b"new")))}.items()},
-            "p/bad": jpeg(app1(BLOCKS["HeaderCut"])),
-        },
-    )
-    os.link(folder / "p" / "e", folder / "p" / "another name of e")
-    (folder / "p" / "linked").symlink_to("e")
-    name = "my catalogue's"
-    lines = called("index", "p", "--catalogue", name)[1].splitlines()
-    assert "HeaderCut" in lines[0]
-    assert lines[1:] == [
-        "7 accepted, 1 refused",
-        "2 groups of pictures whose metadata mean the same: exifnorm-pictures same 'my catalogue'\"'\"'s'",
-        "1 refused or unreadable: exifnorm-pictures report 'my catalogue'\"'\"'s' --html report.html",
-    ]
-    assert called("same", name)[1].splitlines()[-3].startswith("2 groups")
-    assert called("index", "p", "--catalogue", name)[1].splitlines() == ["8 unchanged", *lines[2:]]
 
 
 def test_how_nightly_looks_at_pictures(folder, called, monkeypatch):
@@ -185,12 +162,3 @@ def test_an_old_catalogue_is_from_before_a_run_that_was_stopped(folder, called, 
     changed = map(json.loads, called("changed", "old", "c", "--json")[1].splitlines())
     assert {it["path"]: it["result"] for it in changed if it["record"] == "picture"} == {"a.jpg": "different", "b.jpg": "different"}
     assert called(*run)[2] == "" and called("changed", "old", "c")[0] == 0, "the next copy is of a whole run"
-
-
-def test_whole_is_refused_for_a_catalogue(folder, called, capsys):
-    put(folder, {"p/b.jpg": ONE})
-    called(*INDEX, "--catalogue", "c")
-    for command in ("show --captions", "check"):
-        with pytest.raises(SystemExit) as refused:
-            called(*command.split(), "p", "c", "--whole")
-        assert refused.value.code == 3 and capsys.readouterr().out == ""

@@ -41,6 +41,7 @@ LISTS = {
     "but-creator": "labels agree except creator\n",
     "creators": "creator agree\n",
     "some": "archive/desk\narchive/work/pages.tif\n",
+    "catalogues": "few\n",
     "doubled": "one/refused/Doubled.jpg\n",
     "fields": "# not these\nIFD0:Artist\nIPTC:Keywords\n",
 }
@@ -59,6 +60,7 @@ CALLS = {
         index one/desk --catalogue few --keep-old nowhere/old --jobs 1 --quiet
         index one/desk --catalogue words.catalogue
         index one
+        index archive/copies archive/refused --catalogue "my catalogue's" --jobs 1
         index one few
         index one --catalogue new --scheduler tcp://127.0.0.1:9
         index one --catalogue new -0
@@ -239,6 +241,7 @@ CALLS = {
         check --files-from some0 -0 --all
         check full --xlsx conflicts.xlsx
         check --rules rules
+        check one/desk few --whole
     """,
     "nightly": """
         nightly archive --catalogue night --rules rules --jobs 1
@@ -270,6 +273,8 @@ CALLS = {
         show --captions archive/contradictions/place.jpg archive/texts/languages.jpg --json --limit 50 --whole --debug
         show --captions plain --csv
         show --captions few
+        show --captions one/desk few --whole
+        show --captions --files-from catalogues --whole
         show --captions --files-from some0 -0
         show --captions --files-from some --csv
         show --captions archive/work/retitled.jpg --xlsx captions.xlsx
@@ -300,6 +305,10 @@ CALLS = {
         catalogue export full some.sqlite --files-from some --quiet
         catalogue export full some0.sqlite --files-from some0 -0 --quiet
         catalogue export tables
+        catalogue export few tables.csv
+        catalogue export few tables.XLSX
+        catalogue export few tables.json
+        catalogue export few tables.csv.sqlite --quiet
     """,
     "mend": """
         mend archive/states/two-blocks.jpg mended.jpg

@@ -1,7 +1,5 @@
 """Answers to words that name no command or no picture: they name the command or the file that is meant."""
 
-import os
-
 import pytest
 from made_files import app1, exif, jpeg
 from studio import put
@@ -23,16 +21,6 @@ def test_a_folder_where_pictures_are_expected(pictures, called, command):
         and f"{command} takes pictures, such as 'p q'/*" in printed
     )
     assert called(*command.split(), "p q", "--json")[1].count("NotAFile") == 1
-
-
-@pytest.mark.parametrize("name", ("a.csv", "a.CSV", "a.xlsx", "x.y/a.ods", "a.json"))
-def test_export_to_a_table(pictures, called, name):
-    """A database under the name of a table would be opened by a program for spreadsheets."""
-    os.mkdir("x.y")
-    called("index", "p q", "--catalogue", "c", "--quiet")
-    status, _, messages = called("catalogue", "export", "c", name)
-    assert status == 3 and "--csv" in messages and not os.path.exists(name)
-    assert called("catalogue", "export", "c", "a.csv.sqlite")[0] == 0
 
 
 def test_help(called, capsys):
