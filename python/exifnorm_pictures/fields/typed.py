@@ -131,8 +131,11 @@ def _dated(form: str, in_xmp: str, text: str) -> datetime | date | None:
 
 
 def _clock(text: str) -> time | None:
-    form = "2000-01-01T{}:{}:{}" + "{}:{}" * (len(text) > 6)
-    moment = _dated(r"(\d\d)(\d\d)(\d\d)(?:([+-]\d\d)(\d\d))?", form, text)
+    moment = _dated(
+        r"(\d\d)(\d\d)(\d\d)(?:([+-]\d\d)(\d\d))?",
+        "2000-01-01T{}:{}:{}" + "{}:{}" * (len(text) > 6),
+        text,
+    )
     return moment.timetz() if isinstance(moment, datetime) else None
 
 

@@ -88,8 +88,12 @@ class _Head:
     def read_usual(self, first: bytes, end: int) -> bool:
         """Reads the first picture of a file, of whose bytes these are the first, by the extension module, which leaves one with an unusual head
         to `read`, and judges the blocks only to pack their fields."""
-        judging = _JUDGING if self.blocks.budget.packs else None
-        made = library().jpeg_head(first, end, RESTS, judging)
+        made = library().jpeg_head(
+            first,
+            end,
+            RESTS,
+            _JUDGING if self.blocks.budget.packs else None,
+        )
         if not made:
             return False
         self.end, self.is_all, self.blocks.iptc_digest, rests, blocks = usual_head(made)
