@@ -81,7 +81,9 @@ def test_pip_installs_the_wheel_and_compiles_the_source_distribution(made, tmp_p
     """Without the kit and without another library, with any C compiler."""
     run(PYTHON, "-m", "venv", "--without-pip", "--system-site-packages", tmp_path / "venv")
     words = ["--no-index", "--no-deps", "--no-build-isolation", "--disable-pip-version-check", one(made, pattern)]
-    run(PYTHON, "-m", "pip", "--python", tmp_path / "venv/bin/python", "install", *words, env=environment(CFLAGS="-O0"))
+    run(PYTHON, "-m", "pip", "--python", tmp_path / "venv/bin/python", "install", *words, env=environment())
+    compiled = (tmp_path / "venv").glob("lib/*/site-packages/exifnorm/_in_c.*")
+    assert all(it.stat().st_size < 1_000_000 for it in compiled), "with debugging information it has 6 MB"
     said = run(
         tmp_path / "venv/bin/exifnorm-pictures", "changed", TOP / "samples/before", TOP / "samples/after", status=1, env=environment()
     )
