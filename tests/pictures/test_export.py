@@ -312,24 +312,6 @@ def test_paths(exported, folder):
     assert found == [("Zürich\n.jpg", 0, None), (r"\xff.jpg", 0, None), (r"\xff.jpg", 1, raw)]
 
 
-def test_an_earlier_export_is_replaced_and_no_other_file(exported, run, folder):
-    Path("a.jpg").write_bytes(jpeg(app1(exif(b"abc"))))
-    exported("a.jpg")
-    run("catalogue", "export", "c", "t")
-    before = Path("c").read_bytes()
-    Path("other").write_bytes(b"a text")
-    with sqlite3.connect("database") as base:
-        base.execute("CREATE TABLE a (b)")
-    base.close()
-    os.link("c", "another name of c")
-    for name in ("other", "database", "c", "another name of c", ".", "nowhere/t"):
-        kept = Path(name).read_bytes() if Path(name).is_file() else None
-        assert f"exifnorm-pictures: {name} " in run("catalogue", "export", "c", name, status=4), name
-        assert kept is None or Path(name).read_bytes() == kept
-    run("catalogue", "export", "t", "u", status=4)
-    assert Path("c").read_bytes() == before and not Path("u").exists()
-
-
 def test_a_failure_leaves_the_earlier_export(exported, run, folder, monkeypatch):
     Path("a.jpg").write_bytes(jpeg(app1(exif(b"abc"))))
     exported("a.jpg").close()

@@ -11,13 +11,13 @@ import unittest
 from types import SimpleNamespace
 from unittest import mock
 
-from studio import WithPictures, put, read
+from studio import WithPictures
 
 from exifnorm_pictures.catalogue.store import Catalogue
 from exifnorm_pictures.cli import parser
 from exifnorm_pictures.cli.topics import TOPICS
 from exifnorm_pictures.extract import exiftool, programs
-from exifnorm_pictures.files import atomic, signals
+from exifnorm_pictures.files import signals
 from exifnorm_pictures.model.records import Damaged
 from exifnorm_pictures.scan import progress, workers
 from exifnorm_pictures.scan.batches import How
@@ -145,29 +145,6 @@ class Messages(WithPictures):
             self.assertEqual(str(made.failure(sqlite3.OperationalError("disk I/O error"))), f"{made.name}: disk I/O error")
             damaged = f"{made.name} is damaged: no text. Take an older copy, or make a new one by index"
             self.assertEqual(str(made.failure(Damaged("no text"))), damaged)
-
-    def test_of_files_that_are_not_replaced(self):
-        os.mkdir(self.path("folder"))
-        put(self.folder, {name: b"" if name == "empty" else name.encode() for name in ("other", "catalogue", "page", "empty")})
-        os.symlink("catalogue", self.path("link"))
-        kept_ = (self.path("nothing"), self.path("catalogue"))
-
-        def replace(name):
-            atomic.replace(os.fsencode(self.path(name)), lambda file: file.write(b"new"), lambda head: head == b"page", kept_)
-
-        for name, text in (
-            ("folder", "it is there, and is no regular file"),
-            ("other", "it is there, and is a file of another kind"),
-            ("catalogue", f"it is the catalogue {self.path('catalogue')}"),
-            ("link", f"it is the catalogue {self.path('catalogue')}"),
-            ("nothing/page", "no such file or directory"),
-        ):
-            self.assertEqual(self.raised(atomic.NotReplaced, replace, name), text)
-        for name in ("page", "empty", "new"):
-            replace(name)
-            self.assertEqual(read(self.path(name)), b"new")
-        self.assertEqual(sorted(os.listdir(self.folder)), ["catalogue", "empty", "folder", "link", "new", "other", "page"])
-        self.assertEqual([read(self.path(it)) for it in ("other", "catalogue")], [b"other", b"catalogue"])
 
     def test_of_programs(self):
         self.assertEqual(self.raised(programs.Missing, programs.needed, "no such program"), str(programs.Missing("no such program")))

@@ -34,6 +34,8 @@ LISTS = {
     "earlier.catalogue": HEADER.format(chr(VERSION - 1), "EXNP"),
     "later.catalogue": HEADER.format(chr(VERSION + 1), "EXNP"),
     "other.catalogue": HEADER.format(chr(VERSION), "EXNQ"),
+    "text.catalogue": HEADER.format(chr(VERSION), "EXNP").replace("3\0", "3 "),
+    "text.sqlite": HEADER.format(chr(VERSION), "EXNT").replace("3\0", "3 "),
     "cut.catalogue": HEADER.format(chr(VERSION), "EXNP")[:70],
     "words.catalogue": "words",
     "empty.catalogue": "",
@@ -133,6 +135,7 @@ CALLS = {
         same later.catalogue
         same other.catalogue
         same cut.catalogue
+        same text.catalogue
         same words.catalogue
         same empty.catalogue
         same full --files-from some0
@@ -297,15 +300,30 @@ CALLS = {
         report full --only @fields --equal-numbers --since full.before --html page.html --files-from some
         report full --files-from some0 -0 --html page.html --rules rules
         report --html page.html
+        report few --html one
+        report few --html some
+        report few --html few
+        report few --html link
+        report few --html nowhere/page.html
+        report few --html empty.catalogue
     """,
     "catalogue export": """
         catalogue export full tables.sqlite --quiet
         catalogue export few few.sqlite --quiet
+            catalogue export few few.sqlite --json
+            same few.sqlite
         catalogue export plain plain.sqlite --json --no-look --limit 50 --debug --quiet
         catalogue export full some.sqlite --files-from some --quiet
         catalogue export full some0.sqlite --files-from some0 -0 --quiet
         catalogue export tables
         catalogue export few tables.csv
+        catalogue export few few
+        catalogue export few link
+        catalogue export few one
+        catalogue export few some
+        catalogue export few plain
+        catalogue export few text.sqlite
+        catalogue export few nowhere/tables
         catalogue export few tables.XLSX
         catalogue export few tables.json
         catalogue export few tables.csv.sqlite --quiet
@@ -361,6 +379,7 @@ def test_what_a_command_prints(command, chain, museum, golden):
         (museum / name).write_text(text, encoding="utf-8")
     (museum / "some0").write_text(LISTS["some"].replace("\n", "\0"), encoding="utf-8")
     shutil.copytree("one/desk", "moved", dirs_exist_ok=True)
+    os.symlink("few", "link")
     os.makedirs("mended", exist_ok=True)
     heads = [f"$ exifnorm-pictures {line}\n" for line in lines_of(command)]
     for line in chain:
