@@ -273,7 +273,11 @@ def main() -> None:
                 timed.round()
             show(timed.rows())
         if asked.counted:
-            cost(pictures("--version"))  # which compiles the modules
+            compiled = os.path.join(folder, "compiled pictures")
+            os.mkdir(compiled)
+            make_pictures(compiled, 100)
+            for jobs in ("1", "4"):  # which compiles the modules
+                cost(pictures("index", compiled, "--catalogue", f"{compiled}{jobs}", "--jobs", jobs, "--quiet"))
             show(counted(folder, asked.counted))
             show(by_four(folder, asked.counted))
 

@@ -5,10 +5,10 @@ from __future__ import annotations
 import hashlib
 import operator
 import struct
-from typing import Any, Callable, Dict, Iterable, Iterator, List, Literal, NamedTuple, NoReturn, Optional, Tuple, Union
+from typing import Any, Dict, Iterable, Iterator, List, Literal, NamedTuple, NoReturn, Optional, Tuple, Union
 
 from ._calls import Octets, view_of
-from ._errors import HeadRefused, LibraryMissing, PictureRefused, TooMany, XmpNotRead
+from ._errors import HeadRefused, PictureRefused, TooMany, XmpNotRead
 from ._library import PART, PLACE, RESOURCE, PictureFailure, Status, library
 from ._words import EXIF, IPTC, documented
 
@@ -17,13 +17,7 @@ BLOCK_KINDS = ("", EXIF, IPTC)  # the same of blocks
 PartRow = Tuple[int, int, int, int, int]
 _IPTC = 0x0404  # the number of the resource
 RESOURCE_REST = 0x10000  # and the number of a resource: a rest that is no segment
-# What the extension module needs to judge blocks while it reads them, and what it then knows of one
-Judging = Tuple[Callable[..., object], Callable[[str], str], Callable[[bytes], bytes], bytes]
-Judged = Tuple[str, str, bytes, Optional[str], int]
-UsualBlock = Tuple[int, int, int, int, Optional[Judged]]
-UsualHead = Tuple[int, bool, bytes, Iterator[Tuple[int, ...]], List[UsualBlock]]
-_VERSION = 1  # of the bytes that the extension module makes of a head
-_HEAD, _REST, _BLOCK = struct.Struct("=7Q16s"), struct.Struct("=3Q"), struct.Struct("=8Q64s64s")
+_REST = struct.Struct("=3Q")
 CAUSES: Dict[int, str] = {101: "JpegNoStart", 102: "JpegNoMarker", 103: "JpegLength", 104: "JpegCut", 105: "JpegTooLong"}
 
 
@@ -244,26 +238,30 @@ def digest_but_note(packed: bytes, note: int, end: int) -> Optional[str]:
     return hashlib.blake2b((packed[1:note] + packed[end:-1]).lstrip(b","), digest_size=32).hexdigest()
 
 
-def usual_head(made: bytes) -> UsualHead:
-    """What the extension module has made of a usual head (`_packed.h`): the end of the header of its scan, whether only
-    picture data follow, Photoshop's sum of IPTC, the rests, and the blocks. A rest is what it is, its offset and its length; a
-    block is the number of its kind, the offset of its segment, its own, its length, and what judging it would find, if that is
-    known: the digests of its bytes and of what they mean, its packed fields, a digest of these without the MakerNote if there is
-    one, and whether bytes that no field has may be behind a pointer. Raises `LibraryMissing` if the module is of another release."""
-    if len(made) < _HEAD.size or _HEAD.unpack_from(made)[:2] != (_VERSION, len(made)):
-        raise LibraryMissing("the extension module _native is of another release than this package: install both again")
-    _, _, end, is_all, rests, count, size, noted = _HEAD.unpack_from(made)
-    first = _HEAD.size + rests * _REST.size
-    at = first + count * _BLOCK.size
-    blocks: List[UsualBlock] = []
-    for kind, segment, start, length, fields, note, note_end, may_have_more, octets, digest in _BLOCK.iter_unpack(made[first:at]):
-        judged = None
-        if fields:
-            packed, at = made[at : at + fields - 1], at + fields - 1
-            but_note = digest_but_note(packed, note, note_end) if note_end else None
-            judged = (octets.decode("ascii"), digest.decode("ascii"), packed, but_note, may_have_more)
-        blocks.append((kind, segment, start, length, judged))
-    return end, bool(is_all), noted[:size], _REST.iter_unpack(made[_HEAD.size : first]), blocks
+# What the extension module fills in records, in its order: of a picture, and of a block
+_OF_PICTURE = (
+    *("path", "root", "size", "modified", "changed", "inode", "device", "xmp", "exif", "iptc", "xmp_octets", "exif_octets", "iptc_octets"),
+    *("beside", "blocks", "maker_notes", "other_exif"),
+)
+_OF_BLOCK = ("source", "digest", "length", "octets", "fields", "note", "but_note")
+
+
+def recording(
+    rests: object, judging: object, picture: Any, blocks: Tuple[Any, ...], where: Iterable[str], *others: object
+) -> Tuple[Any, ...]:
+    """What the extension module needs to make the records of a usual JPEG and its blocks (`_packed.h`).
+    A record of the picture, and one of a block of each kind, has what all have; `where` is how the
+    position of a block begins, and `others` are functions."""
+    named = ((picture, _OF_PICTURE), (blocks[0], _OF_BLOCK))
+    places = [tuple(map(one._fields.index, names)) for one, names in named]
+    of_blocks = (blocks[0]._make, blocks, places[1])
+    prefixes = tuple(it.encode("ascii") for it in where)
+    return rests, judging, (picture._make, picture, places[0]), of_blocks, prefixes, *others
+
+
+def rest_parts(rests: bytes) -> Iterator[Tuple[int, ...]]:
+    """Each rest of a usual head as the extension module has it (`_packed.h`): what it is, its offset and its length."""
+    return _REST.iter_unpack(rests)
 
 
 @documented

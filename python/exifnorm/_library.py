@@ -365,7 +365,7 @@ class Library:
     xmp_unsorted: Callable[[bytes], Text]
     packed: Callable[..., Any]  # what is made for catalogues (`_packed.h`), or None, where it is left to Python
     xmp_packed: Callable[..., Any]
-    jpeg_head: Callable[..., Any]
+    jpeg_record: Callable[..., Any]
 
     def __init__(self, place: str) -> None:
         self._library = _opened(place)
@@ -373,7 +373,7 @@ class Library:
         blocks: Any = calls.check, calls.normalise, calls.compare, calls.show, calls.captions
         jpegs: Any = calls.jpeg_parts, calls.photoshop_resources, calls.jpeg_same, calls.jpeg_same_blocks, calls.jpeg_blocks
         self.xmp_normalise, self.xmp_unsorted = calls.xmp_normalise, calls.xmp_unsorted
-        self.packed = self.xmp_packed = self.jpeg_head = _left
+        self.packed = self.xmp_packed = self.jpeg_record = _left
         if _native:
             functions = _native.functions(
                 *(_address(getattr(self._library, _name_of(name, self._library), None)) for name in _OF_EXTENSION)
@@ -381,7 +381,7 @@ class Library:
             blocks, jpegs, self.xmp_normalise = functions[:5], functions[5:10], functions[10]
             if hasattr(self._library, "exifnorm_xmp_unsorted"):
                 self.xmp_unsorted = functions[11]
-            self.packed, self.xmp_packed, self.jpeg_head = functions[12:]
+            self.packed, self.xmp_packed, self.jpeg_record = functions[12:]
         self.check, self.normalise, self.compare, self.show, self.captions = blocks
         self.jpeg_parts, self.photoshop_resources, self.jpeg_same, self.jpeg_same_blocks, self.jpeg_blocks = jpegs
         if not hasattr(self._library, "exifnorm_jpeg_same_blocks"):

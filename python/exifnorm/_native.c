@@ -437,7 +437,7 @@ static PyMethodDef of_library[] = {
     {"xmp_unsorted", xmp_unsorted, METH_O, "The form of a packet for showing."},
     {"packed", packed, METH_VARARGS, "What a catalogue keeps of a block's form."},
     {"xmp_packed", xmp_packed, METH_VARARGS, "What a catalogue keeps of a packet."},
-    {"jpeg_head", jpeg_head, METH_VARARGS, "The blocks of the head of a usual JPEG, and what they mean."},
+    {"jpeg_record", jpeg_record, METH_VARARGS, "What a catalogue keeps of a usual JPEG."},
 };
 #define COUNT ((Py_ssize_t)(sizeof of_library / sizeof of_library[0]))
 #define ADDRESSES 12

@@ -4,6 +4,13 @@
  * A form is the library's, but nothing is taken on trust: whatever isn't as expected, or is rare, has no answer here, and Python reads it.
  * `out` allocates, and a failure of it or of Python is seen once, at the end.
  */
+#ifdef __linux__
+#include <fcntl.h>
+#include <sys/stat.h>
+#include <sys/syscall.h>
+#include <unistd.h>
+#endif
+
 #define FIRST 3072      /* bytes of an output that needs no allocation */
 #define LONGEST 500000  /* bytes of a form whose fields all are kept (budgets.py) */
 #define DEEPEST 100     /* elements of a packet in one another */
@@ -1057,7 +1064,7 @@ static PyObject *xmp_packed(PyObject *capsule, PyObject *arguments)
 /* ---- what the blocks of a picture mean */
 
 /* What Python gives to judge blocks, borrowed: SHA-256, the short name of a property, the field of a property, and the tags behind which bytes may
- * be that no field has, two bytes each. Without SHA-256 no block is judged. */
+ * be that no field has, two bytes each. */
 struct judging {
     PyObject *sha256, *short_name, *line_of;
     struct bytes tags;
@@ -1067,7 +1074,6 @@ struct judging {
 struct judged {
     unsigned char digests[2 * DIGITS]; /* of its bytes, and of what they mean */
     size_t note[2];                    /* where the MakerNote is in the fields */
-    int may_have_notes;                /* whether a tag of `judging` may be in it */
 };
 
 static int has_tag(const struct bytes *block, const struct bytes *tags)
@@ -1121,7 +1127,6 @@ static int judge_block(const struct calls *calls, const struct judging *judging,
     if (done == MADE) {
         memcpy(judged->digests, digests.at, sizeof judged->digests);
         put(fields, json.at, json.length);
-        judged->may_have_notes = !is_record && has_tag(block, &judging->tags);
     }
     end(&json);
     end(&digests);
@@ -1158,7 +1163,6 @@ static int judge_packet(const struct calls *calls, const struct judging *judging
 
 /* ---- the head of a JPEG */
 
-#define VERSION 1        /* of the bytes that are made of a head; _jpeg.py has the same */
 #define RESOURCE 0x10000 /* and the number of one of Photoshop's resources: a rest that is no segment */
 
 /* Which of these a segment begins like, which are tuples that begin with a marker and octets. LEFT if it is none, FAILED with an exception. */
@@ -1295,21 +1299,21 @@ static int find_blocks(const struct calls *calls, const struct bytes *bytes, PyO
 
 /* What is known of the head of a JPEG. */
 struct head {
-    struct bytes bytes, block[KINDS_OF_BLOCKS], sum; /* Photoshop's sum of IPTC */
-    size_t at[KINDS_OF_BLOCKS];                      /* of the segments */
-    size_t after;                                    /* the header of the first scan */
+    struct bytes bytes, block[KINDS_OF_BLOCKS];
+    size_t at[KINDS_OF_BLOCKS]; /* of the segments */
+    size_t after;               /* the header of the first scan */
     struct out rests;
 };
 
 /* LEFT of a JPEG with more than one block of a kind, one in several pieces, or anything that is rare. */
 static int read_usual(const struct calls *calls, PyObject *without, struct head *head)
 {
-    struct bytes found[4] = {{NULL, 0}, {NULL, 0}, {NULL, 0}, {NULL, 0}}, record = {NULL, 0};
+    struct bytes found[4] = {{NULL, 0}, {NULL, 0}, {NULL, 0}, {NULL, 0}}, record = {NULL, 0}, sum = {NULL, 0};
     size_t at[4] = {0, 0, 0, 0};
     int done = find_blocks(calls, &head->bytes, without, found, at, &head->after, &head->rests);
 
     if (done == MADE && found[EXIFNORM_JPEG_PHOTOSHOP].start != NULL) {
-        done = find_record(calls, &head->bytes, &found[EXIFNORM_JPEG_PHOTOSHOP], &record, &head->sum, &head->rests);
+        done = find_record(calls, &head->bytes, &found[EXIFNORM_JPEG_PHOTOSHOP], &record, &sum, &head->rests);
     }
     head->block[0] = found[EXIFNORM_JPEG_XMP];
     head->at[0] = at[EXIFNORM_JPEG_XMP];
@@ -1322,110 +1326,367 @@ static int read_usual(const struct calls *calls, PyObject *without, struct head 
     return done;
 }
 
-/* Puts a block, and its fields apart from it: its kind, the segment, where it begins, its length, that of its fields and one more, or 0 if Python
- * has to judge it, where the MakerNote is in these, whether there may be notes, and the digests. */
-static int put_block(const struct calls *calls, const struct judging *judging, const struct head *head, size_t kind, struct out *rows,
-                     struct out *fields)
-{
-    const struct bytes *block = &head->block[kind];
-    struct judged judged = {{0}, {0, 0}, 0};
-    size_t before = fields->length;
-    int done = LEFT;
+/* ---- the record of a usual JPEG */
 
-    if (judging->sha256 != NULL) {
-        done = kind == 0 ? judge_packet(calls, judging, block, fields, &judged)
-                         : judge_block(calls, judging, block, kind == 2, fields, &judged);
-    }
-    if (done == FAILED) {
-        return FAILED;
-    }
-    put_word(rows, kind);
-    put_word(rows, head->at[kind]);
-    put_word(rows, (size_t)(block->start - head->bytes.start));
-    put_word(rows, block->length);
-    put_word(rows, done == MADE ? fields->length - before + 1 : 0);
-    put_word(rows, judged.note[0]);
-    put_word(rows, judged.note[1]);
-    put_word(rows, (uint64_t)judged.may_have_notes);
-    put(rows, judged.digests, sizeof judged.digests);
-    return MADE;
+#define FIRST_BYTES 65536 /* of a file that are read at once: the head of nearly every picture */
+#define MARKS 5           /* of a file */
+
+/* A file: its number, or -1 if it isn't open, and its first bytes. */
+struct file {
+    const char *path;
+    int64_t marks[MARKS];
+    int number;
+    unsigned char *first;
+    size_t length; /* of the first bytes */
+};
+
+#if defined(SYS_newfstatat) && defined(SYS_fstat) /* as on machines of 64 bits */
+/* Whether the marks of a file are those that it had, in the order of a stamp: signed numbers of 64 bits, as records.py makes them of larger ones. */
+static int has_marks(const struct stat *now, const int64_t *marks)
+{
+    const uint64_t second = 1000000000;
+
+    return marks[0] == (int64_t)now->st_size
+           && marks[1] == (int64_t)((uint64_t)now->st_mtim.tv_sec * second + (uint64_t)now->st_mtim.tv_nsec)
+           && marks[2] == (int64_t)((uint64_t)now->st_ctim.tv_sec * second + (uint64_t)now->st_ctim.tv_nsec)
+           && marks[3] == (int64_t)now->st_ino && marks[4] == (int64_t)now->st_dev;
 }
 
-/* All that is known of a head as bytes: words of eight bytes in the order of the machine, of which the first ones are the version, and the number
- * of all bytes. Rests, blocks and their fields follow. */
-static PyObject *head_as_bytes(const struct calls *calls, const struct judging *judging, const struct head *head, int is_all)
+/* By the system's own calls: those of glibc are younger than its other functions here. */
+static int marks_of(const char *path, struct stat *now)
 {
-    unsigned char sum[16] = {0};
-    struct out made, rows, fields;
-    uint64_t count = 0, length;
-    PyObject *object = NULL;
-    int done = MADE;
+    return (int)syscall(SYS_newfstatat, AT_FDCWD, path, now, 0);
+}
 
-    begin(&made);
-    begin(&rows);
-    begin(&fields);
-    for (size_t kind = 0; kind < KINDS_OF_BLOCKS && done == MADE; kind++) {
-        if (head->block[kind].start != NULL) {
-            done = put_block(calls, judging, head, kind, &rows, &fields);
-            count++;
+static int marks_of_open(int number, struct stat *now)
+{
+    return (int)syscall(SYS_fstat, number, now);
+}
+
+/* Opens a regular file and reads its first bytes. LEFT of any other file, and of one that isn't as it was. A pipe that gets its name isn't waited
+ * for. */
+static int open_file(struct file *file)
+{
+    struct stat now;
+
+    if (marks_of(file->path, &now) != 0 || !S_ISREG(now.st_mode)) {
+        return LEFT;
+    }
+    file->number = open(file->path, O_RDONLY | O_NONBLOCK | O_NOCTTY | O_CLOEXEC);
+    if (file->number < 0 || marks_of_open(file->number, &now) != 0 || !has_marks(&now, file->marks) || now.st_size <= 0) {
+        return LEFT;
+    }
+    file->length = now.st_size < FIRST_BYTES ? (size_t)now.st_size : FIRST_BYTES;
+    file->first = malloc(file->length);
+    return file->first != NULL && pread(file->number, file->first, file->length, 0) == (ssize_t)file->length ? MADE : LEFT;
+}
+
+static int is_as_before(const struct file *file)
+{
+    struct stat now;
+
+    return marks_of(file->path, &now) == 0 && has_marks(&now, file->marks);
+}
+
+static void close_file(const struct file *file)
+{
+    if (file->number >= 0) {
+        close(file->number);
+    }
+}
+#else
+static int open_file(struct file *file)
+{
+    (void)file;
+    return LEFT;
+}
+
+static int is_as_before(const struct file *file)
+{
+    (void)file;
+    return 0;
+}
+
+static void close_file(const struct file *file)
+{
+    (void)file;
+}
+#endif
+
+#define PLACES 17  /* of a picture's record: path, root, marks, digests by kind, those of octets, the rest, the blocks, and two about notes */
+#define OF_BLOCK 7 /* of a block's: its position, digest, length, the digest of its octets, its fields, and two about notes */
+#define OF_NOTES 4 /* both together */
+
+/* What Python gives to make a record of a kind: a function of a tuple, what is the same in all of them, and where the others belong. */
+struct making {
+    PyObject *make, *common, *places;
+};
+
+/* A record with some values, whose references are taken; NULL stands for a value that is as in all records. */
+static PyObject *record_of(const struct making *making, PyObject **values, Py_ssize_t count)
+{
+    Py_ssize_t size = PyTuple_Size(making->common);
+    PyObject *made = size < 0 || PyTuple_Size(making->places) != count ? NULL : PyTuple_New(size), *record = NULL;
+    int done = made == NULL ? FAILED : MADE;
+
+    for (Py_ssize_t i = 0; i < size && done == MADE; i++) {
+        PyObject *value = PyTuple_GetItem(making->common, i);
+
+        Py_INCREF(value);
+        PyTuple_SetItem(made, i, value);
+    }
+    for (Py_ssize_t i = 0; i < count; i++) {
+        Py_ssize_t place = done == MADE && values[i] != NULL ? PyLong_AsSsize_t(PyTuple_GetItem(making->places, i)) : -1;
+
+        if (done != MADE || values[i] == NULL) {
+            Py_XDECREF(values[i]);
+        } else if (PyTuple_SetItem(made, place, values[i]) < 0) { /* which takes the reference also if it fails */
+            done = FAILED;
         }
     }
-    put_word(&made, VERSION);
-    put_word(&made, 0);
-    put_word(&made, head->after);
-    put_word(&made, (uint64_t)is_all);
-    put_word(&made, head->rests.length / (3 * sizeof(uint64_t)));
-    put_word(&made, count);
-    put_word(&made, head->sum.length < sizeof sum ? head->sum.length : sizeof sum);
-    if (head->sum.start != NULL) {
-        memcpy(sum, head->sum.start, head->sum.length < sizeof sum ? head->sum.length : sizeof sum);
+    if (done == MADE) {
+        record = PyObject_CallFunctionObjArgs(making->make, made, NULL);
+    } else if (!PyErr_Occurred()) {
+        PyErr_SetString(PyExc_ValueError, "a record with other places");
     }
-    put(&made, sum, sizeof sum);
-    put(&made, head->rests.at, head->rests.length);
-    put(&made, rows.at, rows.length);
-    put(&made, fields.at, fields.length);
-    if (done == MADE && (made.failed || rows.failed || fields.failed || head->rests.failed)) {
-        PyErr_NoMemory();
-    } else if (done == MADE) {
-        length = made.length;
-        memcpy(made.at + sizeof length, &length, sizeof length);
-        object = PyBytes_FromStringAndSize((const char *)made.at, (Py_ssize_t)made.length);
-    }
-    end(&fields);
-    end(&rows);
-    end(&made);
-    return object;
+    Py_XDECREF(made);
+    return record;
 }
 
-/* Of a JPEG whose head has at most one block of a kind, each in one piece, and nothing rare: where its first scan begins, whether that is all of
- * the rest, the parts that can have no metadata, and the blocks, each with what it means, if Python gives what is needed to judge it. None of any
- * other. _jpeg.py reads these bytes. */
-static PyObject *jpeg_head(PyObject *capsule, PyObject *arguments)
+/* The record of a block, and the values that its picture has of it. `notes` are those about notes, or NULL. */
+static PyObject *block_record(const struct making *making, const struct bytes *prefix, const struct head *head, size_t kind,
+                              const struct judged *judged, const struct out *fields, PyObject *notes, PyObject **of_picture)
 {
-    const struct calls *calls = PyCapsule_GetPointer(capsule, NULL);
-    struct judging judging = {NULL, NULL, NULL, {NULL, 0}};
-    PyObject *object, *without, *helpers, *tags, *made = NULL;
-    struct head head;
-    Py_ssize_t size;
+    PyObject *values[OF_BLOCK] = {NULL};
+    struct out position;
+    int done = MADE;
+
+    begin(&position);
+    put(&position, prefix->start, prefix->length);
+    put_number(&position, head->at[kind], 0);
+    values[0] = position.failed ? PyErr_NoMemory() : PyUnicode_FromStringAndSize((const char *)position.at, (Py_ssize_t)position.length);
+    end(&position);
+    values[1] = of_picture[0] = PyUnicode_FromStringAndSize((const char *)judged->digests + DIGITS, DIGITS);
+    values[2] = PyLong_FromSize_t(head->block[kind].length);
+    values[3] = of_picture[KINDS_OF_BLOCKS] = PyUnicode_FromStringAndSize((const char *)judged->digests, DIGITS);
+    values[4] = fields->failed ? PyErr_NoMemory() : PyBytes_FromStringAndSize((const char *)fields->at, (Py_ssize_t)fields->length);
+    Py_XINCREF(values[1]);
+    Py_XINCREF(values[3]);
+    for (size_t i = 0; i < 5; i++) {
+        done = values[i] == NULL ? FAILED : done;
+    }
+    for (Py_ssize_t i = 0; i < 2 && notes != NULL; i++) {
+        values[5 + i] = PyTuple_GetItem(notes, i);
+        Py_INCREF(values[5 + i]);
+    }
+    if (done == MADE) {
+        return record_of(making, values, OF_BLOCK);
+    }
+    for (size_t i = 0; i < OF_BLOCK; i++) {
+        Py_XDECREF(values[i]);
+    }
+    return NULL;
+}
+
+/* What is usual for a picture: the rests, what judges blocks, what makes records of the picture and of its kinds of blocks, how their positions
+ * begin, and the functions that name the rests, that look behind the first scan, and that look for notes. */
+struct usual {
+    PyObject *without, *rest_of, *is_end, *notes_of;
+    struct judging judging;
+    struct making picture, blocks[KINDS_OF_BLOCKS];
+    struct bytes prefixes[KINDS_OF_BLOCKS];
+};
+
+static int get_usual(PyObject *tuple, struct usual *usual)
+{
+    PyObject *tags, *make, *places, *prefixes[KINDS_OF_BLOCKS];
+    struct making *of = usual->blocks;
+
+    if (!PyArg_ParseTuple(tuple, "O!(OOOS)(OO!O!)(O(O!O!O!)O!)(SSS)OOO", &PyTuple_Type, &usual->without, &usual->judging.sha256,
+                          &usual->judging.short_name, &usual->judging.line_of, &tags, &usual->picture.make, &PyTuple_Type,
+                          &usual->picture.common, &PyTuple_Type, &usual->picture.places, &make, &PyTuple_Type, &of[0].common,
+                          &PyTuple_Type, &of[1].common, &PyTuple_Type, &of[2].common, &PyTuple_Type, &places, &prefixes[0],
+                          &prefixes[1], &prefixes[2], &usual->rest_of, &usual->is_end, &usual->notes_of)) {
+        return -1;
+    }
+    for (size_t kind = 0; kind < KINDS_OF_BLOCKS; kind++) {
+        of[kind].make = make;
+        of[kind].places = places;
+        if (get_bytes(prefixes[kind], &usual->prefixes[kind]) < 0) {
+            return -1;
+        }
+    }
+    return get_bytes(tags, &usual->judging.tags);
+}
+
+/* What Python finds of the notes of a block of Exif, which may have some: four values, the last two of which its picture has. LEFT if bytes of the
+ * block are in no field. */
+static int find_notes(const struct usual *usual, const struct bytes *block, const struct judged *judged, const struct out *fields,
+                      PyObject **notes)
+{
+    *notes = PyObject_CallFunction(usual->notes_of, "y#y#nns#", (const char *)block->start, (Py_ssize_t)block->length,
+                                   (const char *)fields->at, (Py_ssize_t)fields->length, (Py_ssize_t)judged->note[0],
+                                   (Py_ssize_t)judged->note[1], (const char *)judged->digests + DIGITS, (Py_ssize_t)DIGITS);
+    if (*notes == NULL || PyTuple_Size(*notes) == OF_NOTES) { /* which is an error of None */
+        return *notes == NULL ? FAILED : MADE;
+    }
+    PyErr_Clear();
+    return LEFT;
+}
+
+/* Judges a block, of which `made` is the record. LEFT if Python has to judge it. */
+static int make_block(const struct calls *calls, const struct usual *usual, const struct head *head, size_t kind, PyObject **values,
+                      PyObject **made)
+{
+    const struct bytes *block = &head->block[kind];
+    struct judged judged = {{0}, {0, 0}};
+    PyObject *notes = NULL;
+    struct out fields;
     int done;
 
-    if (calls == NULL || !PyArg_ParseTuple(arguments, "SnO!O", &object, &size, &PyTuple_Type, &without, &helpers)) {
-        return NULL;
+    begin(&fields);
+    done = kind == 0 ? judge_packet(calls, &usual->judging, block, &fields, &judged)
+                     : judge_block(calls, &usual->judging, block, kind == 2, &fields, &judged);
+    if (done == MADE && kind == 1 && has_tag(block, &usual->judging.tags)) {
+        done = find_notes(usual, block, &judged, &fields, &notes);
     }
+    if (done == MADE) {
+        *made = block_record(&usual->blocks[kind], &usual->prefixes[kind], head, kind, &judged, &fields, notes, values + 2 + MARKS + kind);
+        done = *made == NULL ? FAILED : MADE;
+    }
+    for (Py_ssize_t i = 2; i < OF_NOTES && done == MADE && notes != NULL; i++) {
+        values[PLACES - OF_NOTES + i] = PyTuple_GetItem(notes, i);
+        Py_INCREF(values[PLACES - OF_NOTES + i]);
+    }
+    Py_XDECREF(notes);
+    end(&fields);
+    return done;
+}
+
+/* The records of the blocks of a head as a tuple, among the values of its picture. LEFT if Python has to judge one. */
+static int make_blocks(const struct calls *calls, const struct usual *usual, const struct head *head, PyObject **values)
+{
+    PyObject *made[KINDS_OF_BLOCKS] = {NULL, NULL, NULL}, *blocks = NULL;
+    Py_ssize_t count = 0;
+    int done = MADE;
+
+    for (size_t kind = 0; kind < KINDS_OF_BLOCKS && done == MADE; kind++) {
+        if (head->block[kind].start != NULL) {
+            done = make_block(calls, usual, head, kind, values, &made[count]);
+            count += done == MADE;
+        }
+    }
+    if (done == MADE) {
+        blocks = PyTuple_New(count);
+        done = blocks == NULL ? FAILED : MADE;
+    }
+    for (Py_ssize_t i = 0; i < count; i++) {
+        if (blocks == NULL) {
+            Py_XDECREF(made[i]);
+        } else {
+            PyTuple_SetItem(blocks, i, made[i]);
+        }
+    }
+    values[PLACES - 3] = blocks;
+    return done;
+}
+
+/* Whether nothing but picture data and the end mark follow the head of a file, which is as it was. LEFT if not. */
+static int check_end(const struct usual *usual, const struct file *file, const struct head *head)
+{
+    size_t size = (size_t)file->marks[0];
+    PyObject *answer = NULL;
+    int is_there;
+
+    if (!is_scan(&head->bytes, head->after, size)) {
+        answer = PyObject_CallFunction(usual->is_end, "inn", file->number, (Py_ssize_t)head->after, (Py_ssize_t)size);
+        is_there = answer == NULL ? -1 : PyObject_IsTrue(answer);
+        Py_XDECREF(answer);
+        if (is_there <= 0) {
+            return is_there < 0 ? FAILED : LEFT;
+        }
+    }
+    Py_BEGIN_ALLOW_THREADS
+    is_there = is_as_before(file);
+    Py_END_ALLOW_THREADS
+    return is_there ? MADE : LEFT;
+}
+
+/* The record of a usual JPEG; LEFT of any other. `values` has its path, its root and its marks. */
+static int make_record(const struct calls *calls, const struct usual *usual, const struct file *file, PyObject **values, PyObject **made)
+{
+    struct head head;
+    int done;
+
     memset(&head, 0, offsetof(struct head, rests));
-    if (get_bytes(object, &head.bytes) < 0
-        || (helpers != Py_None
-            && (!PyArg_ParseTuple(helpers, "OOOS", &judging.sha256, &judging.short_name, &judging.line_of, &tags)
-                || get_bytes(tags, &judging.tags) < 0))) {
-        return NULL;
-    }
+    head.bytes.start = file->first;
+    head.bytes.length = file->length;
     begin(&head.rests);
-    done = read_usual(calls, without, &head);
-    if (done == LEFT) {
-        made = Py_BuildValue("");
-    } else if (done == MADE) {
-        made = head_as_bytes(calls, &judging, &head, size >= 0 && is_scan(&head.bytes, head.after, (size_t)size));
+    done = read_usual(calls, usual->without, &head);
+    done = done == MADE ? check_end(usual, file, &head) : done;
+    done = done == MADE ? make_blocks(calls, usual, &head, values) : done;
+    if (done == MADE && head.rests.length > 0) {
+        values[PLACES - 4] = head.rests.failed
+                                 ? PyErr_NoMemory()
+                                 : PyObject_CallFunction(usual->rest_of, "y#y#", (const char *)file->first, (Py_ssize_t)file->length,
+                                                         (const char *)head.rests.at, (Py_ssize_t)head.rests.length);
+        done = values[PLACES - 4] == NULL ? FAILED : MADE;
     }
     end(&head.rests);
+    if (done == MADE) {
+        *made = record_of(&usual->picture, values, PLACES);
+        return *made == NULL ? FAILED : MADE;
+    }
+    for (size_t i = 0; i < PLACES; i++) {
+        Py_XDECREF(values[i]);
+    }
+    return done;
+}
+
+/* The record of a file with the marks of `stamp` that is a usual JPEG, with those that are `kept`. Of any other file, which is left to Python,
+ * its number, or None if it isn't open. */
+static PyObject *jpeg_record(PyObject *capsule, PyObject *arguments)
+{
+    const struct calls *calls = PyCapsule_GetPointer(capsule, NULL);
+    struct file file = {NULL, {0}, -1, NULL, 0};
+    PyObject *path, *root, *stamp, *kept, *tuple, *made = NULL, *values[PLACES] = {NULL};
+    struct usual usual;
+    int done;
+
+    if (calls == NULL
+        || !PyArg_ParseTuple(arguments, "SSO!O!O!", &path, &root, &PyTuple_Type, &stamp, &PyTuple_Type, &kept, &PyTuple_Type, &tuple)
+        || get_usual(tuple, &usual) < 0) {
+        return NULL;
+    }
+    file.path = PyBytes_AsString(path);
+    values[0] = path;
+    values[1] = root;
+    for (Py_ssize_t i = 0; i < MARKS; i++) {
+        PyObject *mark = PyTuple_GetItem(stamp, i);
+
+        values[2 + i] = PyTuple_GetItem(kept, i);
+        file.marks[i] = mark == NULL ? -1 : (int64_t)PyLong_AsLongLong(mark);
+    }
+    if (PyErr_Occurred()) {
+        return NULL;
+    }
+    Py_BEGIN_ALLOW_THREADS
+    done = strlen(file.path) == (size_t)PyBytes_Size(path) ? open_file(&file) : LEFT; /* no file has a name with a NUL */
+    Py_END_ALLOW_THREADS
+    if (done == MADE) {
+        for (size_t i = 0; i < 2 + MARKS; i++) {
+            Py_INCREF(values[i]);
+        }
+        done = make_record(calls, &usual, &file, values, &made);
+    }
+    free(file.first);
+    if (done == FAILED && PyErr_ExceptionMatches(PyExc_Exception)) { /* Python, to which the file is left, meets and reports it too */
+        PyErr_Clear();
+        done = LEFT;
+    }
+    if (done == LEFT) {
+        return file.number < 0 ? Py_BuildValue("") : PyLong_FromLong(file.number);
+    }
+    close_file(&file);
     return made;
 }

@@ -17,8 +17,10 @@ import made_by_tools
 from commands import TOP, run
 from compiling import HERE
 from exifnorm import _calls, _library
+from exifnorm_pictures.model.records import PictureRecord, Stamp
+from exifnorm_pictures.scan import looking
 from meanings import ASCII, SHORT, Exif, Layout, Record, Value, laid
-from jpeg_made import PICTURE, VASE, exif, packet, picture
+from jpeg_made import VASE, exif, packet, picture
 from small_blocks import CAPTION, LOOP, ONE, long_form, outcome
 from small_packets import small_packets
 
@@ -70,12 +72,12 @@ PICTURES = {
 MOST = [-(1 << 63), -1, 0, 1, 2, 63, 64, 65, 999, 1000, 1001, (1 << 63) - 1]
 PACKETS = [*small_packets(), b"", b"x", b"<a>", small_packets()[0] + 20_000 * b" "]
 OF_PACKETS = ("xmp_normalise", "xmp_unsorted")
-JUDGING = (hashlib.sha256, str, lambda octets: b"[]", b"\x92\x7c")
+PACKING = (hashlib.sha256, str, lambda octets: b"[]")
 # What is made for catalogues, whose results test_packed.py compares with Python's
 PACKED = {
     "packed": [(it, hashlib.sha256) for it in (ONE, CAPTION, BLOCKS["a text in 8,191 bytes"], b"", b"x")],
-    "xmp_packed": [(it, *JUDGING[:3]) for it in PACKETS],
-    "jpeg_head": [(it, 100, ((0xE0, b"JFIF", "JFIF"),), how) for it in (PICTURE, *PICTURES.values()) for how in (None, JUDGING)],
+    "xmp_packed": [(it, *PACKING) for it in PACKETS],
+    "jpeg_record": [(b"/none", b"/", (0,) * 5, (0,) * 5, looking._USUAL)],
 }
 # The arguments of each call of the library.
 ARGUMENTS = {
@@ -237,6 +239,16 @@ def test_memory_after_many_calls(call_of, name):
         assert max(abs(now - was) for now, was in zip(map(sys.getrefcount, arguments), counts)) < 100
 
 
+def test_memory_after_many_records(call_of):
+    """The same of a record that is made."""
+    path, call = os.fsencode(TOP / "samples/before/ceramics/2003-12-bowl.jpg"), call_of("jpeg_record")
+    arguments = (path, b"/", Stamp.at(path), Stamp.at(path), looking._USUAL)
+    assert isinstance(call(*arguments), PictureRecord)
+    counts = [*map(sys.getrefcount, looking._USUAL)]
+    check_no_leak(lambda: call(*arguments), 2000)
+    assert max(abs(now - was) for now, was in zip(map(sys.getrefcount, looking._USUAL), counts)) < 100
+
+
 def addresses(loaded):
     """Those of the library's functions, as the extension module takes them."""
     names = ("check", "normalise", "compare", "show", "captions", *OF_JPEGS, *PAIRS, "jpeg_blocks", "xmp_normalise", "xmp_unsorted")
@@ -303,18 +315,20 @@ def test_allocations_of_functions_that_fail(loaded, native, refusing):
 
 
 # The part of the stable ABI that it uses, with what CPython 3.9 has of it: "Contents of Limited API" in Python's documentation.
-STABLE = """PyArg_UnpackTuple PyBytes_AsString PyBytes_AsStringAndSize PyBytes_FromStringAndSize PyBytes_Type PyCMethod_New
-    PyCapsule_GetPointer PyCapsule_New PyErr_NoMemory PyErr_SetString PyEval_RestoreThread PyEval_SaveThread PyExc_ValueError
-    PyLong_AsLong PyLong_FromUnsignedLong PyMem_Calloc PyMem_Free PyMem_Malloc PyMem_Realloc PyModuleDef_Init PyModule_GetState
-    PyObject_IsTrue PyTuple_GetItem PyTuple_New PyTuple_SetItem PyTuple_Size PyTuple_Type PyUnicode_AsUTF8String PyUnicode_DecodeUTF8
-    Py_DecRef Py_IncRef _PyArg_ParseTupleAndKeywords_SizeT _PyArg_ParseTuple_SizeT _PyObject_CallFunction_SizeT
-    _PyObject_CallMethod_SizeT _Py_BuildValue_SizeT _Py_Dealloc _Py_NoneStruct""".split()
+STABLE = """PyArg_UnpackTuple PyBytes_AsString PyBytes_AsStringAndSize PyBytes_FromStringAndSize PyBytes_Size PyBytes_Type PyCMethod_New
+    PyCapsule_GetPointer PyCapsule_New PyErr_Clear PyErr_ExceptionMatches PyErr_NoMemory PyErr_Occurred PyErr_SetString PyEval_RestoreThread
+    PyEval_SaveThread PyExc_Exception PyExc_ValueError PyLong_AsLong PyLong_AsLongLong PyLong_AsSsize_t PyLong_FromLong PyLong_FromSize_t
+    PyLong_FromUnsignedLong PyMem_Calloc PyMem_Free PyMem_Malloc PyMem_Realloc PyModuleDef_Init PyModule_GetState
+    PyObject_CallFunctionObjArgs PyObject_IsTrue PyTuple_GetItem PyTuple_New PyTuple_SetItem PyTuple_Size PyTuple_Type
+    PyUnicode_AsUTF8String PyUnicode_DecodeUTF8 PyUnicode_FromStringAndSize Py_DecRef Py_IncRef _PyArg_ParseTupleAndKeywords_SizeT
+    _PyArg_ParseTuple_SizeT _PyObject_CallFunction_SizeT _PyObject_CallMethod_SizeT _Py_BuildValue_SizeT _Py_Dealloc _Py_NoneStruct""".split()
 
 
 def test_symbols(extension):
     """It needs nothing that the oldest CPython of the package might not have."""
     needed = subprocess.run(["nm", "-D", "--undefined-only", extension], capture_output=True, text=True, check=True).stdout
-    assert {*re.findall(r" U (\w+)", needed)} <= {*STABLE, "memchr", "memcmp", "memcpy", "qsort", "strchr", "strcmp", "strlen"}
+    of_libc = "close free malloc memchr memcmp memcpy open open64 pread pread64 qsort strchr strcmp strlen syscall".split()
+    assert {*re.findall(r" U (\w+)", needed)} <= {*STABLE, *of_libc}
     shown = subprocess.run(["nm", "-D", "--defined-only", extension], capture_output=True, text=True, check=True).stdout
     assert re.findall(r" [A-Z] (\w+)", shown) == ["PyInit__native"]
 

@@ -1,7 +1,6 @@
 """What the extension module makes for catalogues is what Python makes where the module isn't there, or leaves it to Python."""
 
 import hashlib
-import io
 import os
 import random
 
@@ -9,15 +8,11 @@ import pytest
 
 import exifnorm
 import made_by_tools
-from exifnorm import LibraryMissing, _jpeg, _library
-from exifnorm_pictures.extract.formats import jpeg
-from exifnorm_pictures.fields.block_fields import fields_of
+from exifnorm import _library
 from exifnorm_pictures.files.session import Session
-from exifnorm_pictures.judge import judge
-from exifnorm_pictures.model.budgets import Budget
-from exifnorm_pictures.model.records import Stamp
+from exifnorm_pictures.model.records import PictureRecord, Stamp
+from exifnorm_pictures.scan import looking
 from exifnorm_pictures.scan.batches import How
-from exifnorm_pictures.scan.looking import look
 from exifnorm_pictures.scan.walk import FoundFile
 from jpeg_made import COMMENT, EXTENSION, PICTURE, SCAN, exif, iptc, packet, photoshop, picture, resource, segment
 from meanings import ASCII, SHORT, UNDEFINED, Exif, Layout, Record, Value, laid
@@ -42,6 +37,9 @@ PICTURES = [
     PICTURE,
     picture(COMMENT, end=BEHIND),
     *(picture(exif(block), packet(PACKETS[0]), iptc(RECORDS[0]), end=BEHIND) for block in BLOCKS if len(block) < 60_000),
+    picture(exif(ONE), end=SCAN + b"data" * 20_000 + b"\xff\xd9"),
+    picture(exif(ONE), end=SCAN + b"data" * 20_000 + b"\xff\xd9behind"),
+    picture(exif(ONE), end=SCAN + b"data" * 20_000),
     *(picture(iptc(record), end=BEHIND) for record in RECORDS),
     *(picture(packet(one), end=BEHIND) for one in PACKETS),
     picture(exif(ONE), exif(ONE), end=BEHIND),
@@ -57,34 +55,40 @@ PICTURES = [
 ]
 
 
+def found_file(folder, octets):
+    """A file of these bytes as the walk over a folder finds it."""
+    path = folder / "a.jpg"
+    path.write_bytes(octets)
+    os.utime(path, (1e9, 1e9))
+    return FoundFile(os.fsencode(path), os.fsencode(folder), Stamp.at(os.fsencode(path)))
+
+
 @pytest.fixture
-def both(native, shared, monkeypatch):
-    """What is made of a picture by the module, and what by Python alone."""
+def both(native, shared, monkeypatch, folder):
+    """What a catalogue keeps of a picture by the module, and by Python alone."""
     _library.library()  # which stays for other tests, without the module
     monkeypatch.setattr(_library, "_native", native)
     library = _library.Library(str(shared))
-    made = {name: getattr(library, name) for name in ("packed", "xmp_packed", "jpeg_head")}
-    for module in ("extract.formats.jpeg", "fields.normal_form", "fields.xmp_properties"):
+    monkeypatch.setattr(looking, "FINE", 0)  # a file is looked at in the tick in which it is written
+    made = {name: getattr(library, name) for name in ("packed", "xmp_packed", "jpeg_record")}
+    for module in ("scan.looking", "fields.normal_form", "fields.xmp_properties"):
         monkeypatch.setattr(f"exifnorm_pictures.{module}.library", lambda: library)
 
     def results(octets):
+        file = found_file(folder, octets)
         for name, function in made.items():
             setattr(library, name, function)
-        by_module = [outcome(read, octets, packs) for packs in (True, False)]
+        by_module = outcome(look, file)
         for name in made:
             setattr(library, name, _library._left)
-        return by_module, [outcome(read, octets, packs) for packs in (True, False)]
+        return by_module, outcome(look, file)
 
     return results
 
 
-def read(octets, packs):
-    stream = io.BytesIO(octets)
-    stream.budget = Budget(packs=packs)
-    blocks = jpeg.read(stream)
-    about = blocks.blocks[:], blocks.not_read[:], blocks.damage, blocks.iptc_digest, blocks.counts, blocks.has_more, blocks.rest
-    judged = [(it._replace(fresh=None), fields_of(it)) for it in judge.judge_all(blocks, packs)]
-    return about, judged, blocks.not_read
+def look(file):
+    with Session(programs=False) as session:
+        return looking.look(file, How(), session)
 
 
 def changed(octets, chance):
@@ -111,43 +115,99 @@ def test_pictures(both, number):
         assert by_module == by_python, octets.hex()[:2000]
 
 
-def test_usual_pictures_are_not_left(native, shared, monkeypatch):
+USUAL = [
+    picture(COMMENT, packet(PACKETS[0]), exif(ONE), iptc(CAPTION), end=BEHIND),
+    picture(exif(ONE), end=SCAN + bytes(200_000) + b"\xff\xd9"),
+    picture(exif(ONE), end=SCAN + b"data" + SCAN + b"data\xff\xd9"),
+    picture(exif(made_by_tools.ALL[0].block), end=BEHIND),
+]
+
+
+@pytest.fixture
+def loaded(native, shared, monkeypatch):
+    """A library whose calls are those of the module."""
+    monkeypatch.setattr(_library, "_native", native)
+    return _library.Library(str(shared))
+
+
+def record_of(library, file, path=None, stamp=None):
+    made = library.jpeg_record(path or file.path, file.root, stamp or file.stamp, file.stamp, looking._USUAL)
+    if isinstance(made, int):
+        os.close(made)
+    return made
+
+
+def test_usual_pictures_are_not_left(loaded, folder):
     """The module makes all of a picture as programs write it."""
-    monkeypatch.setattr(_library, "_native", native)
-    library = _library.Library(str(shared))
-    whole = picture(COMMENT, packet(PACKETS[0]), exif(ONE), iptc(CAPTION), end=BEHIND)
-    end, *_, blocks = _jpeg.usual_head(library.jpeg_head(whole, len(whole), ((0xFE, b"", "comment"),), jpeg._JUDGING))
-    assert end == len(whole) - len(BEHIND) + len(SCAN) and [it[0] for it in blocks if it[-1]] == [0, 1, 2]
-    forms = [form for form in map(library.normalise, BLOCKS + RECORDS) if isinstance(form, bytes)]
-    assert len(forms) > 4 and all(library.packed(form, hashlib.sha256) for form in forms)
-    assert sum(library.xmp_packed(it, hashlib.sha256, str, lambda octets: b"[]") is not None for it in PACKETS) > 10
+    for octets in USUAL[:3]:
+        assert isinstance(record_of(loaded, found_file(folder, octets)), PictureRecord), octets[:1000].hex()
+    forms = [form for form in map(loaded.normalise, BLOCKS + RECORDS) if isinstance(form, bytes)]
+    assert len(forms) > 4 and all(loaded.packed(form, hashlib.sha256) for form in forms)
+    assert sum(loaded.xmp_packed(it, hashlib.sha256, str, lambda octets: b"[]") is not None for it in PACKETS) > 10
 
 
-def test_fields_are_packed_for_a_catalogue_alone(native, shared, monkeypatch, tmp_path):
+def test_fields_are_packed_for_a_catalogue_alone(loaded, monkeypatch, folder):
     """A program that reads a picture doesn't wait for what a catalogue keeps."""
-    monkeypatch.setattr(_library, "_native", native)
-    library, hashed = _library.Library(str(shared)), []
-    monkeypatch.setattr(jpeg, "library", lambda: library)
-    counting = [lambda octets: hashed.append(octets) or hashlib.sha256(octets), *jpeg._JUDGING[1:]]
-    monkeypatch.setattr(jpeg, "_JUDGING", tuple(counting))
-    (tmp_path / "a.jpg").write_bytes(picture(exif(ONE), end=BEHIND))
-    path = os.fsencode(tmp_path / "a.jpg")
-    assert exifnorm.read(path).is_whole and exifnorm.compare(path, path).same and hashed == []
-    found = FoundFile(path, os.path.dirname(path), Stamp.of(os.stat(path)))
-    with Session() as session:
-        assert look(found, How(), session).exif and hashed != []
+    called = []
+    for module in ("scan.looking", "fields.normal_form", "fields.xmp_properties"):
+        monkeypatch.setattr(f"exifnorm_pictures.{module}.library", lambda: loaded)
+    for name in ("packed", "xmp_packed", "jpeg_record"):
+        monkeypatch.setattr(loaded, name, lambda *_, name=name: called.append(name))
+    file = found_file(folder, USUAL[0])
+    assert exifnorm.read(file.path).is_whole and exifnorm.compare(file.path, file.path).same and called == []
+    assert look(file).exif and called[0] == "jpeg_record"
 
 
-def test_a_module_of_another_release(native, shared, monkeypatch):
-    """What it makes of a head has another version, or another length than it says: it isn't read."""
-    monkeypatch.setattr(_library, "_native", native)
-    made = _library.Library(str(shared)).jpeg_head(picture(exif(ONE), end=BEHIND), 1, (), jpeg._JUDGING)
-    for other in (b"", made[:8], made[:-1], made + b"\0", bytes(8) + made[8:], b"\xff" * len(made)):
-        with pytest.raises(LibraryMissing, match="another release"):
-            _jpeg.usual_head(other)
+def test_no_file_of_a_record_stays_open(loaded, folder):
+    """Of another file the number stays open, by which Python reads it; none of a name that leads to no file."""
+    file, opened = found_file(folder, USUAL[0]), len(os.listdir("/proc/self/fd"))
+    assert isinstance(record_of(loaded, file), PictureRecord)
+    assert len(os.listdir("/proc/self/fd")) == opened
+    os.mkfifo(folder / "pipe")
+    for path in (folder / "none", folder, folder / "pipe"):
+        assert record_of(loaded, file, os.fsencode(path)) is None
+    assert record_of(loaded, file, file.path + b"\0") is None
+    left = found_file(folder, USUAL[0][:-2])
+    number = loaded.jpeg_record(left.path, left.root, left.stamp, left.stamp, looking._USUAL)
+    assert os.pread(number, 9, 0) == USUAL[0][:9]
+    os.close(number)
 
 
-JFIF = picture(segment(0xE0, b"JFIF\0"), end=BEHIND)
+def test_a_file_that_changes_is_left(loaded, folder):
+    """One that is written to, or another one, between the walk and the look, and one that changes while it is read."""
+    file = found_file(folder, USUAL[0])
+    for at in range(5):
+        other = file.stamp._replace(**{Stamp._fields[at]: file.stamp[at] + 1})
+        assert isinstance(record_of(loaded, file, stamp=other), int)
+    end = looking._USUAL[-2]
+
+    def written_to(*about):
+        os.utime(file.path, (1, 1))
+        return end(*about)
+
+    file = found_file(folder, USUAL[1])
+    changing = (*looking._USUAL[:-2], written_to, looking._USUAL[-1])
+    number = loaded.jpeg_record(file.path, file.root, file.stamp, file.stamp, changing)
+    assert isinstance(number, int)
+    os.close(number)
+
+
+def test_what_fails_is_left(loaded, folder):
+    """Python meets it, too, and says what it is. A signal isn't met again."""
+    file = found_file(folder, USUAL[1])
+
+    def failing(error):
+        def fail(*_):
+            raise error
+
+        return fail
+
+    number = loaded.jpeg_record(file.path, file.root, file.stamp, file.stamp, (*looking._USUAL[:-2], failing(ValueError), None))
+    os.close(number)
+    with pytest.raises(KeyboardInterrupt):
+        loaded.jpeg_record(file.path, file.root, file.stamp, file.stamp, (*looking._USUAL[:-2], failing(KeyboardInterrupt), None))
+
+
 WRONG = [
     ("packed", (ONE,)),
     ("packed", ("", hashlib.sha256)),
@@ -156,16 +216,13 @@ WRONG = [
     ("xmp_packed", (PACKETS[0], None, str, bytes)),
     ("xmp_packed", (PACKETS[0], hashlib.sha256, None, bytes)),
     ("xmp_packed", (PACKETS[4], hashlib.sha256, str, lambda octets: 5)),
-    ("jpeg_head", (PICTURE, 1)),
-    ("jpeg_head", (PICTURE, 1, [], None)),
-    ("jpeg_head", (JFIF, 1, (5,), None)),
-    ("jpeg_head", (JFIF, 1, (("", b"JFIF"),), None)),
-    ("jpeg_head", (JFIF, 1, ((0xE0, "JFIF"),), None)),
-    ("jpeg_head", (JFIF, 1, ((0xE0, b"JFIF"),), (hashlib.sha256,))),
-    ("jpeg_head", (JFIF, 1, ((0xE0, b"JFIF"),), (hashlib.sha256, str, bytes, ""))),
-    ("jpeg_head", (picture(exif(ONE), end=BEHIND), 1, (), (None, str, bytes, b""))),
-    ("jpeg_head", (picture(exif(ONE), end=BEHIND), 1, (), (lambda octets: 5, str, bytes, b""))),
-    ("jpeg_head", (picture(packet(PACKETS[0]), end=BEHIND), 1, (), (hashlib.sha256, None, bytes, b""))),
+    ("jpeg_record", (b"/", b"/")),
+    ("jpeg_record", ("/", b"/", (0,) * 5, (0,) * 5, looking._USUAL)),
+    ("jpeg_record", (b"/", b"/", (0,), (0,) * 5, looking._USUAL)),
+    ("jpeg_record", (b"/", b"/", (0,) * 5, (0,), looking._USUAL)),
+    ("jpeg_record", (b"/", b"/", ("",) * 5, (0,) * 5, looking._USUAL)),
+    ("jpeg_record", (b"/", b"/", (0,) * 5, (0,) * 5, looking._USUAL[:-1])),
+    ("jpeg_record", (b"/", b"/", (0,) * 5, (0,) * 5, ((), (), *looking._USUAL[2:]))),
 ]
 
 

@@ -9,7 +9,7 @@ from typing import Iterator
 PACKAGE = Path(__file__).resolve().parents[2] / "python" / "exifnorm_pictures"
 STATEMENTS = 20_700  # without docstrings
 TOKENS = 11.90  # for each of them: more on one line is no way to have fewer
-OVER_TEN, OVER_TWENTY = 58, 0  # functions with more branches
+OVER_TEN, OVER_TWENTY = 57, 0  # functions with more branches
 _LAYOUT = (tokenize.COMMENT, tokenize.NL, tokenize.NEWLINE, tokenize.INDENT, tokenize.DEDENT, tokenize.ENDMARKER)
 _FUNCTIONS = (ast.FunctionDef, ast.AsyncFunctionDef)
 _DOCUMENTED = (ast.Module, ast.ClassDef, *_FUNCTIONS)

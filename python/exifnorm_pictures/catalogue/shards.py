@@ -86,7 +86,7 @@ def _add(all_: Catalogue, name: str, earlier: Sequence[str], before: Before | No
 MOST = 10  # that SQLite attaches
 _NAMED = 3  # of those that an answer is without
 LOCK = ".lock"  # a file of a folder, for the time in which its list changes
-_TABLES = ("runs", "pictures", "blocks", "not_read", "maker_notes")
+_TABLES = "runs pictures blocks not_read maker_notes".split()
 
 
 class Twice(WrongUse):

@@ -15,7 +15,7 @@ import sqlite3
 import sys
 import stat
 import time
-from itertools import groupby
+from itertools import chain, groupby
 from operator import itemgetter
 from typing import Any, Callable, Iterable, Iterator, NamedTuple, Optional, Sequence, Type, TypeVar, overload
 
@@ -26,9 +26,9 @@ from ..files import mounts, opening as files, signals
 from ..model.budgets import ROW_BYTES, ROW_NUMBER, SQL_STEPS
 from ..model.columns import Damaged
 from ..model.errors import Failure
-from ..model.found import NotRead
+from ..model.found import NAMES, OWN, NotRead
 from ..model.numbers import Numbers
-from ..model.problems import GONE, NO_BYTES, Problem
+from ..model.problems import GONE, NO_BYTES
 from ..model.records import BLOCKS, PICTURES, BlockRecord, PictureRecord, Stamp, block_of_row, has_short, not_read_of_row, picture_of_row
 from ..model.sides import Status
 
@@ -108,16 +108,21 @@ CREATE INDEX pictures_by_other_exif ON pictures (other_exif) WHERE other_exif !=
 
 PICTURE_COLUMNS, _BUT_ID = PICTURES.listed, PICTURES.listed.partition(", ")[2]
 BLOCK_COLUMNS = BLOCKS.listed
-# Of each None, each bytes and each word of an enumeration that is bound, Python before 3.12 looks for an adapter, and fails to find one by an
+# Of each None and each bytes that is bound, Python before 3.12 looks for an adapter, and fails to find one by an
 # error: that takes as long as all else of binding it. These leave a value as it is, so other programs in this process see no difference.
 _NOTHING: Any = {}  # whose method `get` returns None, and is called without a frame of Python
 sqlite3.register_adapter(type(None), _NOTHING.get)
 sqlite3.register_adapter(bytes, bytes)
-for _words in (Status, Problem):
-    sqlite3.register_adapter(_words, str.__str__)
 
 _PUT_PICTURE = f"INSERT OR REPLACE INTO pictures ({PICTURE_COLUMNS}, run) VALUES (?{', ?' * PICTURES.width})"
 _PUT_BLOCK = f"INSERT INTO blocks (picture, number, {BLOCK_COLUMNS}) VALUES (?, ?{', ?' * BLOCKS.width})"
+# Columns that a block has in common with most others, and those that it hasn't. To bind a value takes more than twice as long as one in the
+# statement
+_COMMON = "extractor status cause place repair repaired note".split()
+_OWN = "source digest length octets".split()
+_common_of = itemgetter(*map(BLOCKS.names.index, _COMMON))
+_own_of = itemgetter(*map(BLOCKS.names.index, _OWN))
+_USUAL = (OWN, Status.ACCEPTED, *[None] * 5)
 _ADD_ROWS = (
     "DELETE FROM main.pictures WHERE path IN (SELECT path FROM {other}.pictures)",
     f"INSERT INTO main.pictures ({PICTURE_COLUMNS}, run) SELECT id + :pictures, {_BUT_ID}, run + :runs FROM {{other}}.pictures",
@@ -133,7 +138,7 @@ _REFUSED = """SELECT path FROM pictures WHERE path > ? AND problem IS NULL AND (
 _AT_ONCE = 1000  # paths that are read together
 _BEGIN_RUN = "INSERT INTO runs (id, started, sidecars, whole) SELECT max(ifnull(max(id), 0), ?) + 1, ?, ?, ? FROM runs"
 # What is equal of a picture that is read again and is as it was: nobody has written to its file or its sidecars
-_SAME = ("size", "modified", "changed", "inode", "sidecars", "problem", "exif_octets", "iptc_octets", "xmp_octets", "file")
+_SAME = "size modified changed inode sidecars problem exif_octets iptc_octets xmp_octets file".split()
 # The same tables without keys, for rows that are only written and read once
 _ROWS = (
     f"CREATE TABLE pictures ({PICTURE_COLUMNS}, run)",
@@ -878,18 +883,33 @@ def make_rows(base: sqlite3.Connection) -> None:
         base.execute(statement)
 
 
+@functools.lru_cache(maxsize=100)
+def _put_usual(*kinds: str) -> str:
+    """The statement for usual blocks, each the first one of its kind, of which the first one has the fields of all."""
+    usual = f"'{OWN}', '{Status.ACCEPTED}', NULL, NULL, NULL, NULL, NULL"
+    rows = [f"(?1, {at}, '{kind}', '{NAMES[kind]}', {'NULL' if at else '?2'}, ?, ?, ?, ?, {usual})" for at, kind in enumerate(kinds)]
+    return f"INSERT INTO blocks (picture, number, kind, name, fields, {', '.join(_OWN + _COMMON)}) VALUES {', '.join(rows)}"
+
+
+def _rows_of(number: int, blocks: Sequence[BlockRecord]) -> tuple[str, list[Any]]:
+    """The statement for the blocks of a picture, and its values."""
+    cells = joined([it.fields for it in blocks])
+    kinds = [it.kind for it in blocks if it.name == NAMES.get(it.kind) and _common_of(it) == _USUAL]
+    if any(cells[:1]) and len(kinds) == len(cells):
+        return _put_usual(*kinds), [(number, cells[0], *chain.from_iterable(map(_own_of, blocks)))]
+    return _PUT_BLOCK, [(number, at, *it[: BLOCKS.width - 1], cell) for at, (it, cell) in enumerate(zip(blocks, cells))]
+
+
 def put_rows(base: sqlite3.Connection, run: int, first: int, entries: Iterable[PictureRecord]) -> None:
     """Adds rows for some pictures, which get the numbers from `first` on. A row that replaces another of the same path takes the other's blocks
     and parts with it, by ON DELETE CASCADE."""
-    numbered, blocks = list(enumerate(entries, first)), []
-    base.executemany(_PUT_PICTURE, [(number, *it[1 : PICTURES.width], run) for number, it in numbered])
+    numbered = list(enumerate(entries, first))
+    put = base.cursor().executemany  # a connection has a reference to each cursor for a while
+    put(_PUT_PICTURE, [(number, *it[1 : PICTURES.width], run) for number, it in numbered])
     for number, it in numbered:
-        cells = joined([block.fields for block in it.blocks])
-        blocks += [(number, at, *block[: BLOCKS.width - 1], cell) for at, (block, cell) in enumerate(zip(it.blocks, cells))]
-    base.executemany(_PUT_BLOCK, blocks)
-    base.executemany("INSERT INTO maker_notes VALUES (?, ?)", [(number, it.notes) for number, it in numbered if it.notes])
-    parts = [(number, at, *part) for number, it in numbered for at, part in enumerate(it.unread)]
-    base.executemany("INSERT INTO not_read VALUES (?, ?, ?, ?)", parts)
+        put(*_rows_of(number, it.blocks))
+    put("INSERT INTO maker_notes VALUES (?, ?)", [(number, it.notes) for number, it in numbered if it.notes])
+    put("INSERT INTO not_read VALUES (?, ?, ?, ?)", [(number, at, *part) for number, it in numbered for at, part in enumerate(it.unread)])
 
 
 def root_of_row(row: tuple[bytes]) -> bytes:

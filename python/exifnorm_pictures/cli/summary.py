@@ -11,8 +11,7 @@ from ..comparison.changed.edit_groups import KINDS, Group
 from ..comparison.changed.edit_words import BRACKETS, head_of, steps_of
 from ..comparison.changed.edits import Edit
 from ..comparison.changed.marking import IN, KEPT, OUT, Step
-from ..comparison.changed.summary import MOST_NAMES, Summary
-from ..comparison.changed.summary import LONGEST_NAMES, fitting, lacking_of, results_of, sentence, shown_name
+from ..comparison.changed.summary import LONGEST_NAMES, MOST_NAMES, Summary, fitting, lacking_of, results_of, sentence, shown_name
 from ..model.results import Result
 from ..model.texts import pictures_in_words, safe
 from .columns import width

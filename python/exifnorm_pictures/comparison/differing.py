@@ -10,7 +10,7 @@ from ..fields.listing import LONGEST_BYTES, OCTETS, counted_type, digest_of, ord
 from ..fields.plain_names import group_name, group_of
 from ..model.xmp_values import Long
 
-NUMBERS = ("BYTE", "SHORT", "LONG", "WHOLE", "SSHORT", "SLONG", "RATIONAL", "SRATIONAL")
+NUMBERS = "BYTE SHORT LONG WHOLE SSHORT SLONG RATIONAL SRATIONAL".split()
 
 
 class FieldDifference(NamedTuple):

@@ -198,7 +198,7 @@ CREATE INDEX groups_by_picture ON groups (picture);
 
 # Columns that are mostly NULL. Rows have an empty text there: of each None Python 3.11 asks for an adapter, which fails by an error each time.
 _EMPTY_IS_NULL = {
-    "pictures": {"path_bytes", "problem", "detail", "exif", "iptc", "xmp", "coded_picture", "sha256", "damage", "latitude", "longitude"},
+    "pictures": set("path_bytes problem detail exif iptc xmp coded_picture sha256 damage latitude longitude".split()),
     "blocks": {"cause", "repair"},
     "fields": {"number"},
     "captions": {"block", "guess"},

@@ -22,16 +22,14 @@ def blocks_of_file(
     path: bytes,
     whole: bool = False,
     session: Session | None = None,
-    packs: bool = False,
 ) -> Blocks:
     """All blocks of one file, unchanged, and the parts that were not read. A file that can't be read has a problem and no blocks.
     Of a JPEG the head, the tail and the pictures of its MPF index are read; with `whole` also everything between. ExifTool reads
-    the files that the readers here don't, in the session or in one of its own. With `packs` the
-    fields of a usual JPEG are packed at once. Raises `programs.Missing` if it is needed and not
-    installed, `programs.Failed`, and `LibraryMissing`.
+    the files that the readers here don't, in the session or in one of its own. Raises
+    `programs.Missing` if it is needed and not installed, `programs.Failed`, and `LibraryMissing`.
     """
     try:
-        return blocks_in(File(*opening.opened(path), Budget(whole, packs=packs)), path, whole, session)
+        return blocks_in(File(*opening.opened(path), Budget(whole)), path, whole, session)
     except TooMuch as why:
         return failed(why)
     except LibraryMissing:  # an OSError too, but not of this file

@@ -34,7 +34,7 @@ Iptc4xmpCore:IntellectualGenre Iptc4xmpCore:Location Iptc4xmpCore:Scene Iptc4xmp
 """.split()
 
 Names = frozenset[str]
-_DIRECTORIES = ("main", "exif", "gps", "interop", "thumb", "iptc")
+_DIRECTORIES = "main exif gps interop thumb iptc".split()
 
 
 def names_and_groups(where: str, key: str, block: str = "") -> tuple[Names, Names, Names]:

@@ -19,11 +19,11 @@ LONGEST_NUMBERS = 160  # characters of numbers that are kept
 _BEGINS = 60  # characters that are kept of the beginning
 DIGITS = 32  # hexadecimal digits of SHA-256 that identify a value that isn't kept whole
 
-OCTETS = {"BYTE", "ASCII", "SBYTE", "UNDEFINED", "UTF8", "octets"}
-WIDE_TEXTS = {"9c9b", "9c9c", "9c9d", "9c9e", "9c9f"}  # of Windows: UTF-16, least significant byte first
+OCTETS = set("BYTE ASCII SBYTE UNDEFINED UTF8 octets".split())
+WIDE_TEXTS = set("9c9b 9c9c 9c9d 9c9e 9c9f".split())  # of Windows: UTF-16, least significant byte first
 _OTHER_DATASETS = {"2:125", "2:202"}  # pictures
-DATASET_DATES = ("1:70", "2:30", "2:37", "2:47", "2:55", "2:62")
-DATASET_TIMES = ("1:80", "2:35", "2:38", "2:60", "2:63")
+DATASET_DATES = "1:70 2:30 2:37 2:47 2:55 2:62".split()
+DATASET_TIMES = "1:80 2:35 2:38 2:60 2:63".split()
 DATASET_NUMBERS = ("1:0", "1:20", "1:22", "2:0")
 _GPS_COMMENTS = {"001b", "001c"}
 _MARKED = {"9286"} | _GPS_COMMENTS | WIDE_TEXTS  # tags of texts that aren't bare ones
@@ -217,7 +217,7 @@ def counted_type(field: Field) -> str:
     return f"{'bytes' if field.type == 'octets' else field.type.lower()}[{field.count}]"
 
 
-_PLACES = ["main", "exif", "interop", "gps", "thumb", "iptc", "xmp"]
+_PLACES = "main exif interop gps thumb iptc xmp".split()
 
 
 def order_of(key: tuple[str, str]) -> tuple[int, tuple[int, ...], str]:

@@ -26,7 +26,7 @@ _PROGRAM = (
     rf"({_PRODUCTS}|(imagemagick|inkscape|paint\.net|picasa|ebay)\b.*)"
     r"|software: .*|file written by adobe photoshop.*|creator: gd-jpeg .*|optimized by jpegmini .*|lead technologies inc\..*|intel\(r\) jpeg library.*"
 )
-_FILLING = {"DIGITAL", "STILL", "CAMERA", "IMAGE", "PICTURE", "PHOTO", "DSC", "JPEG", "EXIF", "CORPORATION", "CORP", "INC", "CO", "LTD"}
+_FILLING = set("DIGITAL STILL CAMERA IMAGE PICTURE PHOTO DSC JPEG EXIF CORPORATION CORP INC CO LTD".split())
 
 
 def is_own(text: str, make: str = "", model: str = "") -> bool:

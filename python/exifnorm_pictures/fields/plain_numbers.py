@@ -17,7 +17,7 @@ from .plain_texts import text_of
 Rule = Callable[[Field], "str | None"]
 
 UNKNOWN = "unknown"
-INTEGERS = ("SHORT", "LONG", "WHOLE", "SSHORT", "SLONG")
+INTEGERS = "SHORT LONG WHOLE SSHORT SLONG".split()
 RATIOS = ("RATIONAL", "SRATIONAL")
 
 

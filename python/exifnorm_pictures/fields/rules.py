@@ -34,7 +34,7 @@ city = Zürich
 labels agree except keywords
 title, caption agree
 """
-NEEDS, VALUES, EQUAL, LIKE, NEVER = "needs", "values", "equal", "like", "never"
+NEEDS, VALUES, EQUAL, LIKE, NEVER = "needs values equal like never".split()
 LENGTH, AFTER, BEFORE = "length", "after", "before"
 AGREE = "agree"
 COMPARED = (*(it.word for it in LABELS), POSITION)  # labels of which Exif, IPTC and XMP of a picture may disagree

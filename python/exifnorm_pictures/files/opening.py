@@ -22,11 +22,12 @@ _held: dict[bytes, int] = {}  # the numbers of the files that are held open, by 
 
 
 @contextlib.contextmanager
-def held(path: bytes) -> Iterator[int | None]:
+def held(path: bytes, number: int | None = None) -> Iterator[int | None]:
     """Holds a file open, whose number is its result: all that is read meanwhile by this name is of this file, whatever file gets the name. One
-    that can't be opened isn't held, and `opened` raises why; one that is held already stays so."""
-    number = None
-    if path not in _held:
+    that can't be opened isn't held, and `opened` raises why; one that is held already stays so. With a number the file is open already."""
+    if number is not None:
+        _held[path] = number
+    elif path not in _held:
         with contextlib.suppress(OSError):
             number = _held[path] = opened(path)[0]
     try:

@@ -121,11 +121,6 @@ def judge_all(blocks: Blocks, packs: bool = False) -> list[BlockRecord]:
 
 def _judged(at: FoundBlock, blocks: Blocks, extended: _Extended | None, packs: bool) -> BlockRecord:
     """One block of a picture."""
-    if packs and (judged := blocks.judged.get(at.name)):
-        octets, digest, fields, but_note, may_have_notes = judged
-        record = partial(BlockRecord, at.kind, *at[2:5], Status.ACCEPTED, digest, None, None, len(at.data), octets)
-        block = record(fields=fields, but_note=but_note)
-        return _with_notes(block, at, blocks) if may_have_notes else block
     if at.kind == XMP and not at.data.startswith(COMPRESSED):
         if extended:
             return extended.judge(at, packs)

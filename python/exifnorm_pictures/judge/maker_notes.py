@@ -24,17 +24,10 @@ _WARNINGS = ("-q", "-q", "-json", "-a", "-u", "-G1:4", "-n", "-b", "-sep", " | "
 _WORDS = (*_WARNINGS, "-MakerNotes:all")
 _WITHOUT = "-fast2"  # reads no MakerNote, so it leaves the warnings that have nothing to do with them
 # Numbers that are places in the file, and must change if something moves. What is there is a value of its own.
+# Unknown_CTBO: where the parts of a CR3 are
 _PLACES = (
-    "ThumbnailOffset",
-    "PreviewImageStart",
-    "OtherImageStart",
-    "JpgFromRawStart",
-    "MPImageStart",
-    "StripOffsets",
-    "RawDataOffset",
-    "HiddenDataOffset",
-    "Unknown_CTBO",  # where the parts of a CR3 are
-)
+    "ThumbnailOffset PreviewImageStart OtherImageStart JpgFromRawStart MPImageStart StripOffsets RawDataOffset HiddenDataOffset Unknown_CTBO"
+).split()
 LONGEST = 200  # characters of a value that is kept whole
 
 

@@ -105,11 +105,10 @@ class Budget:
         whole: bool = False,
         seconds: float | None = None,
         most: int | None = None,
-        packs: bool = False,
     ) -> None:
         """With `seconds` reading ends after so many of a clock, and with `most` a file with more
-        bytes isn't read. With `packs` the fields are packed for a catalogue."""
-        self.seconds, self.most, self.packs = seconds, most, packs
+        bytes isn't read."""
+        self.seconds, self.most = seconds, most
         self._deadline = None if seconds is None else time.monotonic() + seconds
         self.times = WHOLE if whole else 1
         self.left = {what: most * WHOLE for what, most in LIMITS.items()} if whole else LIMITS.copy()

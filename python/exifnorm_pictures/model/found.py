@@ -4,7 +4,7 @@ from __future__ import annotations
 
 import hashlib
 from collections import Counter
-from typing import Any, Iterable, NamedTuple, Sequence
+from typing import Iterable, NamedTuple, Sequence
 
 from .budgets import BLOCKS, NOT_READ, Budget
 
@@ -34,7 +34,7 @@ def other_name(name: str) -> str:
     return "" if name in STANDARDS else name
 
 
-_ORDINALS = ("first", "second", "third", "fourth", "fifth", "sixth", "seventh", "eighth", "ninth")
+_ORDINALS = "first second third fourth fifth sixth seventh eighth ninth".split()
 
 
 def ordinal(number: int) -> str:
@@ -170,7 +170,6 @@ class Blocks:
         self.damage = damage  # where the file is cut off, if all of its metadata stands before that
         self.counts: dict[str, int] = {}  # of blocks by name
         self.has_more = False  # whether ExifTool may find blocks in a part that was not read
-        self.judged: dict[str, Any] = {}  # by the names of blocks, as far as they were judged when they were read
         self.iptc_digest = b""  # of the record, as Photoshop has noted it
         self.rest: dict[str, int] = {}  # bytes of the parts by name that can have no metadata, as far as their lengths are read
         self.budget = budget or Budget()

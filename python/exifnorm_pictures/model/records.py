@@ -195,11 +195,8 @@ class PictureRecord(NamedTuple):
             others["damage"] = fault
         if not problem:  # of one with a problem nothing is known
             others.update(_compared(blocks, unread))
-        others.update(blocks=tuple(blocks), unread=tuple(unread))
-        values = [0, path, root, *(stamp or _NO_STAMP), type, extractor, problem, detail, *_OTHERS]
-        for name, value in others.items():  # in a third of the time of a call with so many names
-            values[_PLACES[name]] = value
-        return tuple.__new__(cls, values)
+        others.update(zip(Stamp._fields, stamp or _NO_STAMP), blocks=tuple(blocks), unread=tuple(unread))
+        return cls(path=path, root=root, type=type, extractor=extractor, problem=problem, detail=detail, **others)
 
     @classmethod
     def of_blocks(
@@ -281,8 +278,6 @@ def is_same_file(picture: PictureRecord, other: PictureRecord) -> bool:
     return has_marks and picture.marks == other.marks and picture.sidecars == other.sidecars and not has_rotted
 
 
-_PLACES = {name: number for number, name in enumerate(PictureRecord._fields)}
-_OTHERS = tuple(PictureRecord._field_defaults.values())[_PLACES["detail"] + 1 :]
 _NO_STAMP = (None,) * len(Stamp._fields)
 
 

@@ -12,8 +12,7 @@ from . import lists
 from .changes import Changes
 from .contents import About
 from .entries import Entry, pages_of
-from .rendering import Marks
-from .rendering import WITH_PICTURES, Renderer
+from .rendering import WITH_PICTURES, Marks, Renderer
 from .searching import SearchIndex
 from .small_pictures import InPage, Kept
 

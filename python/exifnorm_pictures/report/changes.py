@@ -11,13 +11,11 @@ from ..comparison.changed import states as changed
 from ..comparison.coded import Coded, sentence_of_coded
 from ..comparison.differing import FieldDifference
 from ..comparison.changed.marking import Marker, Piece, Pieces
-from ..comparison.changed.summary import MovedFolders
+from ..comparison.changed.summary import NOW, MovedFolders, Summary, lacking_of, name_of, sentence
 from ..comparison.changed.pairs import AFTER, BEFORE, heads_of
 from ..comparison.changed.edit_groups import KINDS, Group
 from ..comparison.changed.edit_words import head_of
 from ..comparison.changed.edits import Edit, lists_of, place_of
-from ..comparison.changed.summary import NOW, Summary, name_of
-from ..comparison.changed.summary import lacking_of, sentence
 from ..comparison.wording import sides, tell_apart
 from ..fields.left_out import lines
 from ..model.records import Stamp, is_as_before

@@ -16,7 +16,7 @@ from typing import Any, BinaryIO, Sequence
 LARGEST = 10_000  # bytes of a small picture
 ORIENTATION, EMBEDDED, WHOLE = b"o", b"e", b"w"  # what is asked: the Orientation, or a small picture, first from one of these
 # What Pillow reads by itself: for EPS it would start Ghostscript, which runs what a picture says
-_FORMATS = ("JPEG", "MPO", "PNG", "GIF", "BMP", "DIB", "PPM", "TIFF", "WEBP", "AVIF", "JPEG2000", "PSD", "ICO", "TGA", "PCX")
+_FORMATS = "JPEG MPO PNG GIF BMP DIB PPM TIFF WEBP AVIF JPEG2000 PSD ICO TGA PCX".split()
 SECONDS, MEMORY = 10, 256 << 20  # that one picture may take
 _WIDEST = (300, 220, 150, 100)  # points, each smaller than the one before, until a picture is small enough
 _TAG = 0x0112  # Orientation

@@ -193,7 +193,7 @@ def _digest_of_file(path: bytes, stamp: Stamp) -> str:
 
 
 CONVERTER = "heif-convert"
-_BRANDS = (b"heic", b"heix", b"heim", b"heis", b"hevc", b"hevx", b"mif1", b"msf1", b"avif", b"avis")  # ISO/IEC 23008-12, 10; AV1-AVIF, 6
+_BRANDS = b"heic heix heim heis hevc hevx mif1 msf1 avif avis".split()  # ISO/IEC 23008-12, 10; AV1-AVIF, 6
 _LARGEST = 32 << 20  # bytes of a JPEG that is made
 
 

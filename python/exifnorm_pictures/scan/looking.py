@@ -6,17 +6,21 @@ import time
 from typing import Iterable, Iterator, Sequence
 
 from exifnorm import LibraryMissing
+from exifnorm._jpeg import digest_but_note, recording
+from exifnorm._library import library
 
-from ..extract import extraction, programs, sidecars
+from ..extract import extraction, programs, sidecars, structure
+from ..extract.formats import jpeg
 from ..extract.formats.streams import digest_of_file
 from ..files.opening import held
 from ..files.session import Session
 from ..judge import judge
 from ..model.budgets import WHOLE_FILE, TooMuch
 from ..model import rest
-from ..model.found import OWN, UNREAD_NOTES, Blocks, damage as faults_in
+from ..model.found import EXIF, NAMES, OWN, UNREAD_NOTES, Blocks, damage as faults_in
 from ..model.problems import NO_BYTES, Problem
 from ..model.records import RACY, BlockRecord, PictureRecord, Stamp
+from ..model.sides import Status
 from ..model.texts import reason
 from .batches import How
 from .walk import FoundFile
@@ -30,8 +34,29 @@ FINE, COARSE = 20_000_000, 2_000_000_000
 def look(file: FoundFile, how: How, session: Session, packs: bool = True) -> PictureRecord:
     """The result for one file, its fields packed for a catalogue unless that isn't asked for. An error of any kind affects only this file, which
     is opened once."""
-    with held(file.path):
+    made = None
+    if packs and file.stamp and not (how.pixels or how.whole or how.maker_notes or file.sidecars):
+        made = library().jpeg_record(file.path, file.root, file.stamp, _marked(file.stamp, _now()), _USUAL)
+    if isinstance(made, PictureRecord):
+        return made
+    with held(file.path, made):
         return compared_with_before(file, _look(file, how, session, packs))
+
+
+def _notes_of(block: bytes, fields: bytes, note: int, end: int, digest: str) -> object:
+    """Where the MakerNote of a block of Exif is, a digest of its fields without it, and what its picture has of both; None if bytes of the block
+    are in no field."""
+    found = structure.notes(block)
+    but_note = digest_but_note(fields, note, end)
+    if found.uncovered or found.place is None:
+        return None if found.uncovered else (None, but_note, "", "")
+    return found.place, but_note, f"{NAMES[EXIF]}:{found.place}", but_note or digest
+
+
+_BLOCKS = tuple(BlockRecord(kind, NAMES[kind], "", OWN, Status.ACCEPTED, "", None, None, 0, "") for kind in jpeg.WHERE)
+_PICTURE = PictureRecord.of(b"", b"", None, "JPEG", OWN, beside="")
+_OTHERS = (lambda *rests: _lengths(jpeg.passed_over(*rests)), jpeg.is_end, _notes_of)
+_USUAL = recording(*jpeg.READING, _PICTURE, _BLOCKS, jpeg.WHERE.values(), *_OTHERS)
 
 
 def compared_with_before(file: FoundFile, picture: PictureRecord) -> PictureRecord:
@@ -80,7 +105,7 @@ def _look(file: FoundFile, how: How, session: Session, packs: bool) -> PictureRe
 def _read(file: FoundFile, how: How, session: Session, packs: bool) -> tuple[Blocks, list[BlockRecord]]:
     """The blocks of a file and its sidecars, and what they mean. A file over a limit has a problem, and so has one for which a program takes too long."""
     try:
-        blocks = extraction.blocks_of_file(file.path, how.whole, session, packs)
+        blocks = extraction.blocks_of_file(file.path, how.whole, session)
         if blocks.problem == Problem.NO_FILE:  # which was there when its folder was listed
             blocks = Blocks(problem=Problem.VANISHED, detail=Problem.VANISHED.text)
         if file.sidecars:
@@ -155,12 +180,14 @@ def _unless_changed(file: FoundFile, began: int) -> Stamp | None:
     git does it: the next run looks again, and a file that moves is still recognised.
     """
     now = Stamp.at(file.path)
-    if now is None or file.stamp != now:
-        return None
+    return None if now is None or file.stamp != now else _marked(now, began)
+
+
+def _marked(now: Stamp, began: int) -> Stamp:
+    """The marks of a file at which a look has begun then."""
     times = (now.modified, now.changed)
-    if not began or began - max(times) <= COARSE and _is_racy(times, began):
-        return now._replace(changed=RACY)
-    return now
+    is_racy = not began or began - max(times) <= COARSE and _is_racy(times, began)
+    return now._replace(changed=RACY) if is_racy else now
 
 
 def _is_racy(times: Sequence[int], began: int) -> bool:

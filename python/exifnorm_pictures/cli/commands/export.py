@@ -38,7 +38,7 @@ def run(arguments: argparse.Namespace) -> int:
             work.all(run.quiet or not sys.stderr.isatty())
         atomic.put_copy(arguments.file, file, head_is_ours, tuple(files_of(name)), BESIDE)
         say_unknown(catalogue.not_there(only))
-    counts = {name: written.counts.get(name, 0) for name in ("pictures", "fields", "captions", "conflicts", "groups")}
+    counts = {name: written.counts.get(name, 0) for name in "pictures fields captions conflicts groups".split()}
     if output.json:
         left_out = {"texts_not_kept": work.missing, "absent_groups": work.groups.absent, "maker_notes_not_read": work.maker_notes}
         print_object("export", "summary", {**path_members(os.fsencode(arguments.file)), "rows": counts, **left_out})
@@ -59,7 +59,7 @@ def run(arguments: argparse.Namespace) -> int:
 def _refuse_table(name: str) -> None:
     """Raises `WrongUse` for the name of a file that a program for spreadsheets would open."""
     ending = os.path.splitext(name)[1].lower()
-    if ending in (".csv", ".tsv", ".xls", ".xlsx", ".ods", ".json"):
+    if ending in ".csv .tsv .xls .xlsx .ods .json".split():
         tables_ = "show --captions, changed, check and same print tables with --csv, and write them with --xlsx"
         raise WrongUse(f"{shown_path(name)}: catalogue export writes a database of SQLite, whose name doesn't end with {ending}; {tables_}")
 

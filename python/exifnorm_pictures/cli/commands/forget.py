@@ -9,11 +9,10 @@ from ...catalogue.store import Catalogue, roll_back
 from ...model.texts import path_members, pictures_in_words, shown_path
 from ..exit_codes import SUCCESS
 from ..looking import written_files_of
-from ..names import named
+from ..names import named, settle_first
 from ..objects import print_object
 from ..options import Files, Output, group_of
 from ..output import print_line
-from ..names import settle_first
 
 
 def run(arguments: argparse.Namespace) -> int:

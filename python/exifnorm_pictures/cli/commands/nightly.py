@@ -16,8 +16,7 @@ from ...catalogue.store import Catalogue, NoCatalogue, earlier_release
 from ...catalogue.checking import Checked
 from ...comparison.coded import sentence_of_coded
 from ...comparison.changed.edit_groups import Group
-from ...comparison.nightly.news import Between, Kind, News, Tally
-from ...comparison.nightly.news import newly_broken, newly_unread
+from ...comparison.nightly.news import Between, Kind, News, Tally, newly_broken, newly_unread
 from ...comparison.changed.pairs import heads_of
 from ...fields.rules import Rule
 from ...model.errors import WrongUse

@@ -21,11 +21,10 @@ from ...scan.hashing import looker
 from ...scan.index import IndexOptions, index
 from ..exit_codes import DIFFERENCE, SUCCESS, UNKNOWN
 from ..looking import how_of, is_quiet, opened
-from ..names import named
+from ..names import named, settle_first, with_first
 from ..objects import print_object
 from ..options import Files, Output, Run, groups_of
 from ..output import closed_folder, print_line, print_lines
-from ..names import settle_first, with_first
 
 SHOWN = 10  # files that are named of each state
 # The words of --list, and the states of the files that are listed then

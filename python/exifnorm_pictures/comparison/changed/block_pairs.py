@@ -252,7 +252,7 @@ def _status(block: Block) -> str:
 # What a MakerNote makes of the verdict on Exif
 _READS_OTHERWISE = dict.fromkeys((Result.SAME, Result.SAME_BUT, Result.SAME_NUMBERS), Result.DIFFERENT)
 _HAS_MOVED = dict.fromkeys((Result.SAME, Result.DIFFERENT, Result.DIFFERENT_REPAIRED), Result.MOVED_NOTE)
-_OF_EXIF = ("main", "exif", "interop", "gps", "thumb")
+_OF_EXIF = "main exif interop gps thumb".split()
 
 
 class Noted(NamedTuple):

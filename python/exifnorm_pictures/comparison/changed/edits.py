@@ -45,7 +45,7 @@ DATES, PROGRAMS, NUMBERS = "dates", "what programs write by themselves", "equal 
 FURTHER = "further fields"
 BY_THEMSELVES = (*SAVES, "IPTC:EnvelopeRecordVersion", "IPTC:ApplicationRecordVersion")
 # DataSets that IPTC-NAA IIM 4.2 allows to be repeated, and that are lists of texts
-_REPEATED = ("2:12", "2:20", "2:25", "2:26", "2:27", "2:80", "2:85", "2:118", "2:122")
+_REPEATED = "2:12 2:20 2:25 2:26 2:27 2:80 2:85 2:118 2:122".split()
 _DIGITS = re.compile(r"\d+")
 _DONE = {IN: "added", OUT: "removed", "~": "other bytes"}
 

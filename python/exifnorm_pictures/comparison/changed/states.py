@@ -24,10 +24,9 @@ from ...model.rest import counting
 from ...model.sides import REACHED, Status
 from ...model.steps import Step
 from ...model.verdicts import Judged, Verdict, left_open, verdicts
-from .block_pairs import NOTHING, Details, Lost, details_of
+from .block_pairs import NOTHING, Details, Lost, Noted, details_of, noted
 from ..coded import Coded, coded_result as result_of_coded, parts_that_differ, result_with
 from ..differing import FieldDifference
-from .block_pairs import Noted, noted
 from .pairs import AFTER, BEFORE, Pair, Pairs
 
 if TYPE_CHECKING:

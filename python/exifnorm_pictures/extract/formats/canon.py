@@ -8,7 +8,7 @@ from .boxes import Box, boxes
 from .streams import Stream, leave
 
 UUID = bytes.fromhex("85c0b687820f11e08111f4ce462b6a48")
-CNCV, CMT1, CMT2, CMT3, CMT4 = b"CNCV", b"CMT1", b"CMT2", b"CMT3", b"CMT4"
+CNCV, CMT1, CMT2, CMT3, CMT4 = b"CNCV CMT1 CMT2 CMT3 CMT4".split()
 _WITHOUT = frozenset(b"CCTP CTBO THMB free".split())  # kinds and places of tracks, thumbnail
 
 

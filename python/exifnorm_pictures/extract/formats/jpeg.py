@@ -10,22 +10,39 @@ import hashlib
 import re
 from typing import Iterator
 
-from exifnorm._jpeg import RESOURCE_REST, Judging, usual_head
-from exifnorm._library import library
+from exifnorm._jpeg import RESOURCE_REST, rest_parts
 
 from ...fields.xmp_properties import line_of
 from ...model.budgets import RESOURCES, Budget, budget_of
-from ...model.found import CUT, EXIF, IPTC, NAMES, REST, SIX, XMP, XMP_HEAD, Blocks, Broken, NotRead
+from ...model.found import CUT, EXIF, IPTC, REST, SIX, XMP, XMP_HEAD, Blocks, Broken, NotRead
 from ...model.xmp_names import short_name
 from ..structure import PRIVATE_TAGS
 from . import mpf, photoshop
 from .extended_xmp import HEAD as EXTENDED, Pieces
-from .jpeg_segments import APP0, APP1, APP13, APP14, APP15, APP2, APP3, COM, SOI
-from .jpeg_segments import EXIF_PIECE, PHOTOSHOP_PIECE, RESTS, XMP_PACKET, XMP_PIECE
-from .jpeg_segments import Head, blocks_of, read_head, read_up_to, rest_of
+from .jpeg_segments import (
+    APP0,
+    APP1,
+    APP13,
+    APP14,
+    APP15,
+    APP2,
+    APP3,
+    COM,
+    EXIF_PIECE,
+    PHOTOSHOP_PIECE,
+    RESTS,
+    SOI,
+    XMP_PACKET,
+    XMP_PIECE,
+    Head,
+    blocks_of,
+    read_head,
+    read_up_to,
+    rest_of,
+)
 from .jpeg_tail import ALONE, WINDOW, Markers, Tail, segments, tail
 from .parts import CREDENTIALS, METADATA, PICTURE, REST as THE_REST, STRUCTURE, Part, Range, word
-from .streams import HEAD, Stream, digest_of, read_at, size_of
+from .streams import Stream, digest_of, read_at, size_of
 from .trailers import known_trailer, leave_trailer
 
 START = b"\xff\xd8\xff"
@@ -38,21 +55,17 @@ _META = (b"Meta\0\0", b"META\0\0", b"Exif\0\0")  # Kodak's APP3, which has the s
 
 
 def read(stream: Stream, whole: bool = False) -> Blocks:
-    """The blocks of a JPEG, and what the extension module knows of what they mean. Raises `Broken`."""
+    """The blocks of a JPEG. Raises `Broken`."""
     budget = budget_of(stream)
     blocks = Blocks(type="JPEG", budget=budget)
     end = size_of(stream)
     head = _Head(blocks)
     try:
-        first = read_up_to(stream, 0, HEAD)
-        if not head.read_usual(first, end):
-            head.read(stream, 0, budget, first)
+        head.read(stream, 0, budget)
     except Broken as why:  # a lenient form: what a damaged file has before its fault
         if not blocks.blocks:
             raise
         blocks.not_read.append(NotRead(f"{REST} ({why})", digest_of(stream, head.end, end)))
-        return blocks
-    if head.is_all:
         return blocks
     if head.is_open:
         blocks.leave(f"{REST} (the file ends before its first scan, at {end})", b"")
@@ -83,33 +96,10 @@ class _Head:
         self._runs: list[tuple[str, bytes]] = []  # Photoshop resources, the same way
         self._pieces = Pieces()
         self._rest = ""  # the name of the last part that can have no metadata
-        self.is_all = False  # whether nothing follows but one plain scan and the end mark, as far as that is known
 
-    def read_usual(self, first: bytes, end: int) -> bool:
-        """Reads the first picture of a file, of whose bytes these are the first, by the extension module, which leaves one with an unusual head
-        to `read`, and judges the blocks only to pack their fields."""
-        made = library().jpeg_head(
-            first,
-            end,
-            RESTS,
-            _JUDGING if self.blocks.budget.packs else None,
-        )
-        if not made:
-            return False
-        self.end, self.is_all, self.blocks.iptc_digest, rests, blocks = usual_head(made)
-        self.has_scan = True
-        for number, segment, at, length, judged in blocks:
-            kind, where = _WHERE[number]
-            self.blocks.add(kind, first[at : at + length], where % segment)
-            self.blocks.judged[NAMES[kind]] = judged
-        for what, at, length in rests:
-            name = photoshop.name_of(what - RESOURCE_REST) if what >= RESOURCE_REST else RESTS[what][2]
-            self._pass_over(name, first[at : at + _FEW], length)
-        return True
-
-    def read(self, stream: Stream, start: int, budget: Budget, first: bytes = b"") -> None:
-        """Reads the picture that begins at `start`, perhaps with these bytes. Raises `Broken` once the blocks before the fault are added."""
-        head = read_head(stream, start, budget, first)
+    def read(self, stream: Stream, start: int, budget: Budget) -> None:
+        """Reads the picture that begins at `start`. Raises `Broken` once the blocks before the fault are added."""
+        head = read_head(stream, start, budget)
         blocks = iter(blocks_of(head))
         for marker, kind, begins, at, size in head.parts:
             if begins:
@@ -148,24 +138,38 @@ class _Head:
         elif kind == _INDEX:
             self.indexes.append((start + 4 + mark, data[mark:]))
         elif rest_of(marker, data):
-            self._pass_over(kind, data[:_FEW], len(data))
+            self.pass_over(kind, data[:_FEW], len(data))
         else:
             self.blocks.leave(kind + self.of, data)
 
-    def _pass_over(self, what: str, first: bytes, length: int) -> None:
+    def pass_over(self, what: str, first: bytes, length: int) -> None:
         """Counts a part that can have no metadata, and begins so."""
         self._rest = _name_of(what, first, self._rest)
         self.blocks.pass_over(self._rest + self.of, length)
 
 
-# With these the extension module judges blocks
-_JUDGING: Judging = (hashlib.sha256, short_name, line_of, b"".join(PRIVATE_TAGS))
+def is_end(number: int, after: int, size: int) -> bool:
+    """Whether only picture data and the end mark follow in an open file of this size, whose head ends here."""
+    head = _Head(Blocks())
+    head.end, head.has_scan = after, True
+    _read_after(open(number, "rb", closefd=False), head, size, False)
+    return not (head.blocks.not_read or head.blocks.damage)
+
+
+def passed_over(octets: bytes, rests: bytes) -> Blocks:
+    """A result without blocks: the parts that can have no metadata, as the extension module has found them in a file."""
+    head = _Head(Blocks())
+    for what, at, length in rest_parts(rests):
+        name = photoshop.name_of(what - RESOURCE_REST) if what >= RESOURCE_REST else RESTS[what][2]
+        head.pass_over(name, octets[at : at + _FEW], length)
+    return head.blocks
+
+
+# With these the extension module reads a head and judges its blocks
+READING = RESTS, (hashlib.sha256, short_name, line_of, b"".join(PRIVATE_TAGS))
 _RESOURCES, _INDEX = "Photoshop resources", "MPF index"
-_WHERE = (  # the blocks, as the extension module numbers them
-    (XMP, "APP1 segment at %d"),
-    (EXIF, "APP1 segment at %d"),
-    (IPTC, "Photoshop resource 0404 in the APP13 segment at %d"),
-)
+# The blocks as the extension module numbers them, and what stands before the offset of a segment
+WHERE = {XMP: "APP1 segment at ", EXIF: "APP1 segment at ", IPTC: "Photoshop resource 0404 in the APP13 segment at "}
 
 
 # Marks that the library doesn't know, in their segments, and what these have. All but that of an

@@ -57,13 +57,13 @@ class Head(NamedTuple):
         return bool(self.parts) and self.parts[-1][0] == SOS
 
 
-def read_head(stream: Stream, start: int, budget: Budget, first: bytes = b"") -> Head:
+def read_head(stream: Stream, start: int, budget: Budget) -> Head:
     """The head of the picture that begins at `start`. The pictures of an index can overlap, so all share a budget.
 
-    The first bytes of a file are read, unless they are given, and twice as many while the head isn't whole: what was found in them doesn't
-    change. A file may end after a whole segment, which is no fault here. Raises `TooMuch`.
+    The first bytes of a file are read, and twice as many while the head isn't whole: what was found in them doesn't change. A file may end
+    after a whole segment, which is no fault here. Raises `TooMuch`.
     """
-    octets = first or read_up_to(stream, start, HEAD)
+    octets = read_up_to(stream, start, HEAD)
     while True:
         parts, cause, place = _parts(octets, budget)
         more = read_up_to(stream, start + len(octets), len(octets)) if cause == "JpegCut" else b""
