@@ -407,13 +407,13 @@ class Reported(WithPictures):
             picture("part", {EXIF: "P"}, [KNOWN]),
         ]
         made = self.catalogue("now", *now)
-        made.set_versions(1, "1.0.0", "12.57", "0.27.6")
+        made.set_version(1, "1.0.0")
         made.end_run(1, "2000-01-01T00:00:09Z")
         self.about = contents.About(made, self.catalogue("old", *old), look=False)
 
     def test_results_of_a_library_without_proofs(self):
         self.assertEqual(contents.unproved(self.about.catalogue.runs()), [])
-        self.about.catalogue.set_versions(1, "1.0.0-unproved", None, None)
+        self.about.catalogue.set_version(1, "1.0.0-unproved")
         self.assertEqual(contents.unproved(self.about.catalogue.runs()), ["1.0.0-unproved"])
 
     def test_the_order_of_lists(self):
@@ -484,7 +484,7 @@ class File(WithPictures):
             with self.assertRaisesRegex(NoCatalogue, "attempt to write a readonly database$"):
                 made.begin_run("2000-01-01T00:00:00Z")
         with Catalogue(name, make=True) as made:
-            self.assertEqual(made.runs(), [("2000-01-01T00:00:00Z", None, None, None, None)])
+            self.assertEqual(made.runs(), [("2000-01-01T00:00:00Z", None, None)])
 
     def test_it_is_locked_before_its_tables_are_looked_for(self):
         """So if two runs make it at once, the second one waits for the first."""

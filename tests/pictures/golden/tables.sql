@@ -1,4 +1,4 @@
--- version 11
+-- version 12
 CREATE TABLE blocks (
     picture INTEGER NOT NULL REFERENCES pictures(id) ON DELETE CASCADE,
     number INTEGER NOT NULL,        -- the order in the file
@@ -73,8 +73,6 @@ CREATE TABLE runs (
     started TEXT NOT NULL,          -- UTC
     ended TEXT,                     -- missing where the run was stopped
     exifnorm TEXT,                  -- the version of the library that made the digests; it ends with -unproved if that was not proved
-    exiftool TEXT,                  -- versions of the programs that have read a picture
-    exiv2 TEXT,
     sidecars INTEGER NOT NULL,      -- 1: XMP files beside pictures are blocks of them
     whole INTEGER NOT NULL          -- 1: every byte of a JPEG is read
 );
