@@ -241,22 +241,6 @@ def test_texts_of_a_sidecar_stay(exported):
     assert asked(base, query) == [("caption", None, LONG.strip()), ("title", "XMP sidecar", "Vase")]
 
 
-@pytest.mark.parametrize("afterwards", ["there", "gone", "changed"])
-def test_long_texts_are_kept(afterwards, run):
-    """Whole, also in no declared character set, so the file isn't needed."""
-    Path("a.jpg").write_bytes(with_long_texts())
-    run("index", "a.jpg", "--catalogue", "c", "--quiet")
-    if afterwards != "there":
-        Path("a.jpg").unlink()
-    if afterwards == "changed":
-        Path("a.jpg").write_bytes(jpeg(with_record(data_set(120, b"Vase"))))
-    assert "NULL" not in run("catalogue", "export", "c", "t")
-    base = sqlite3.connect("t")
-    assert asked(base, "SELECT standard, text FROM captions WHERE label = 'caption'") == [("IPTC", LONG.strip()), ("XMP", LONG.strip())]
-    assert asked(base, "SELECT value FROM fields WHERE name = 'IPTC:Caption-Abstract'") == [(LONG.strip(),)]
-    assert asked(base, "SELECT * FROM conflicts") == []
-
-
 def test_enormous_texts_are_null(run):
     Path("a.jpg").write_bytes(with_long_texts("a" * 40_000 + " " + "b" * 20_000))
     Path("b.xmp").write_bytes(
