@@ -33,8 +33,13 @@ FIELDS = {
 BLOCKS = [ONE, laid(Exif(FIELDS), Layout(">")), *(made.block for made in made_by_tools.ALL if made.block[:1] != b"\x1c")]
 RECORDS = [CAPTION, Record([(2, 120, bytes(40_000)), (1, 90, b"\x1b%G"), (2, 25, "Krüge".encode()), (9, 1, b"\xff" * 40)]).spelled()]
 PACKETS = [*small_packets(), small_packets()[0].replace(b"Vase", b"Vase " * 2000)]
+# A block with a MakerNote, with one in its entry, and with bytes that only the MakerNote can reach
+HEAD = bytes.fromhex("4d4d002a00000008 0001 8769 0004 00000001 0000001a 00000000 0001 927c 0007")
+NOTED = HEAD + bytes.fromhex("00000008 0000002c 00000000") + b"notenote"
+NOTES = [NOTED, HEAD + bytes.fromhex("00000004 6e6f7465 00000000"), NOTED + b"more"]
 PICTURES = [
     PICTURE,
+    *(picture(exif(block), end=BEHIND) for block in NOTES),
     picture(COMMENT, end=BEHIND),
     *(picture(exif(block), packet(PACKETS[0]), iptc(RECORDS[0]), end=BEHIND) for block in BLOCKS if len(block) < 60_000),
     picture(exif(ONE), end=SCAN + b"data" * 20_000 + b"\xff\xd9"),
@@ -119,7 +124,7 @@ USUAL = [
     picture(COMMENT, packet(PACKETS[0]), exif(ONE), iptc(CAPTION), end=BEHIND),
     picture(exif(ONE), end=SCAN + bytes(200_000) + b"\xff\xd9"),
     picture(exif(ONE), end=SCAN + b"data" + SCAN + b"data\xff\xd9"),
-    picture(exif(made_by_tools.ALL[0].block), end=BEHIND),
+    picture(exif(NOTED), packet(PACKETS[0]), end=BEHIND),
 ]
 
 
@@ -139,7 +144,7 @@ def record_of(library, file, path=None, stamp=None):
 
 def test_usual_pictures_are_not_left(loaded, folder):
     """The module makes all of a picture as programs write it."""
-    for octets in USUAL[:3]:
+    for octets in USUAL:
         assert isinstance(record_of(loaded, found_file(folder, octets)), PictureRecord), octets[:1000].hex()
     forms = [form for form in map(loaded.normalise, BLOCKS + RECORDS) if isinstance(form, bytes)]
     assert len(forms) > 4 and all(loaded.packed(form, hashlib.sha256) for form in forms)
