@@ -12,6 +12,7 @@
 #   make sdist                            the Python packages as source, which compile it, in out/sdist
 #   make aarch64                          the program and libexifnorm for aarch64 Linux, proved for it, in out/aarch64
 #   make wheel MACHINE=aarch64            a Python wheel with that library, in out/aarch64/wheel; so with install, too
+#   make windows                          a Python wheel for Windows, with the library in C by mingw, in out/windows/wheel
 #   make static                           the program for x86-64 and aarch64, without any library, in out/static
 #   make dist                             an archive of all that install writes, its sums and its components, in out/dist
 #   make release SIGN=KEY                 all packages, the archives and their sums, in out/release; signed if a key is given
@@ -77,7 +78,7 @@ papers = LICENSE-APACHE LICENSE-MIT CHANGELOG.md $(addprefix docs/,BLOCKS.md CAT
 # all that is installed, before it is copied to its folder
 stage = out/stage
 
-.PHONY: all program library check stage install uninstall wheel wasm npm page c-source sdist aarch64 static dist release clean help
+.PHONY: all program library check stage install uninstall wheel wasm npm page c-source sdist aarch64 windows static dist release clean help
 .DELETE_ON_ERROR:
 
 all: program library
@@ -222,6 +223,15 @@ c-source: $(proved)
 
 sdist: c-source
 	@python3 packaging/sdist.py out/c/exifnorm-$(VERSION)-c $(epoch) out/sdist
+
+# IN_C names the folder of the C source, if it was made before.
+windows: from_c = $(or $(IN_C),out/c/exifnorm-$(VERSION)-c)
+windows: $(if $(IN_C),,c-source)
+	mkdir -p out/windows/lib
+	x86_64-w64-mingw32-gcc -std=c99 -O2 -w -shared -s -o out/windows/lib/exifnorm.dll '$(from_c)/exifnorm.c'
+	rm -f out/windows/wheel/*.whl
+	SOURCE_DATE_EPOCH=$(epoch) EXIFNORM_MACHINE=windows '$(PYTHON)' -m pip wheel --no-build-isolation --no-deps \
+	    --disable-pip-version-check -w out/windows/wheel ./python
 
 # Programs of px_cli, with os.c and heap.c in place of the toolchain's C code: one for aarch64, and those with glibc in them. musl 1.2.3 has
 # not all that the program calls.

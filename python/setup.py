@@ -1,7 +1,7 @@
 """Puts the library libexifnorm.so.1 and the extension module into the wheel, and gives the wheel the tag of the machine that they are for.
 
-`make` builds both, and setuptools builds in out/wheel, so the sources stay unchanged. With EXIFNORM_MACHINE=aarch64 in the environment
-the wheel is for aarch64, and has no extension module: this Python's headers are for this machine.
+`make` builds both, and setuptools builds in out/wheel, so the sources stay unchanged. With EXIFNORM_MACHINE=aarch64 or windows
+in the environment the wheel is for that machine, and has no extension module: this Python's headers are for this one.
 """
 
 from __future__ import annotations
@@ -22,7 +22,8 @@ TOP = Path(__file__).resolve().parent.parent
 MACHINE = os.environ.get("EXIFNORM_MACHINE") or platform.machine()
 IS_FOR_ANOTHER = MACHINE != platform.machine()
 BUILT, TOOLS = (TOP / "out" / MACHINE, f"{MACHINE}-linux-gnu-") if IS_FOR_ANOTHER else (TOP / "out", "")
-LIBRARY = BUILT / "lib" / "libexifnorm.so.1"
+IS_FOR_WINDOWS = MACHINE == "windows"
+LIBRARY = BUILT / "lib" / ("exifnorm.dll" if IS_FOR_WINDOWS else "libexifnorm.so.1")
 ROOM = BUILT / "wheel" / "room"
 EXTENSION = "_native.abi3.so"
 LIBC = "libc.so.6"
@@ -72,7 +73,8 @@ class BuildWithLibrary(build_py):
         target = Path(self.build_lib, "exifnorm", LIBRARY.name)
         shutil.copyfile(LIBRARY, target)
         target.chmod(0o755)
-        subprocess.run([f"{TOOLS}strip", "--strip-unneeded", target], check=True)
+        if not IS_FOR_WINDOWS:  # its linker has stripped it
+            subprocess.run([f"{TOOLS}strip", "--strip-unneeded", target], check=True)
         if LIBRARY.with_name(EXTENSION).exists():
             shutil.copyfile(LIBRARY.with_name(EXTENSION), target.with_name(EXTENSION))
 
@@ -88,6 +90,8 @@ class TaggedWheel(bdist_wheel):
     """A wheel for one machine and every Python 3."""
 
     def get_tag(self) -> tuple[str, str, str]:
+        if IS_FOR_WINDOWS:
+            return "py3", "none", "win_amd64"
         machine = f"linux_{MACHINE}" if IS_FOR_ANOTHER else super().get_tag()[2]
         folder = Path(self.get_finalized_command("build_py").build_lib, "exifnorm")
         return "py3", "none", platform_tag(machine, [glibc_needed(it) for it in (LIBRARY, *folder.glob(EXTENSION))])

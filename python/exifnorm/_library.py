@@ -41,7 +41,7 @@ def _extension() -> Any:
 
 _native = _extension()
 
-NAME = "libexifnorm.so.1"
+NAME = "exifnorm.dll" if os.name == "nt" else "libexifnorm.so.1"
 NAME_ROOM = 32  # bytes of the longest constant text of the library
 
 Failure = Tuple[int, int, int]

@@ -1,7 +1,15 @@
 /* Loads a library at run time, as Python does: load FILE. Prints its version, and whether two blocks of one caption mean the same. */
 #include "exifnorm.h"
-#include <dlfcn.h>
 #include <stdio.h>
+#ifdef _WIN32
+#include <windows.h>
+#define RTLD_NOW 0
+#define dlopen(name, how) ((void *)LoadLibraryA(name))
+#define dlsym(library, name) ((void *)GetProcAddress((HMODULE)(library), name))
+#define dlerror() "it can't be loaded"
+#else
+#include <dlfcn.h>
+#endif
 
 static const unsigned char FIRST[] = "\034\002\170\000\004Vase", SECOND[] = "\034\002\170\200\004\000\000\000\004Vase";
 

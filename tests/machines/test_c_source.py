@@ -5,6 +5,7 @@ from __future__ import annotations
 
 import re
 import shutil
+import sys
 import tarfile
 from pathlib import Path
 from typing import Dict, List
@@ -67,6 +68,19 @@ def test_it_shows_the_calls_of_the_header_alone(builds: Builds, c_folder: Path) 
 
 
 # ---- how it is built
+
+
+def test_the_wheel_for_windows(builds: Builds, c_folder: Path, folder: Path) -> None:
+    """It has the packages, and a library that a program for Windows loads, in Wine."""
+    (windows,) = (it for it in MACHINES if it.name == "windows")
+    windows.need()
+    run("make", "windows", f"IN_C={c_folder}", f"PYTHON={sys.executable}", folder=TOP)
+    (wheel,) = (TOP / "out/windows/wheel").glob("*.whl")
+    assert wheel.name == f"exifnorm-{VERSION}-py3-none-win_amd64.whl"
+    shutil.unpack_archive(wheel, folder, "zip")
+    libraries = [it.name for it in (folder / "exifnorm").iterdir() if it.suffix in (".dll", ".so", ".pyd")]
+    assert libraries == ["exifnorm.dll"] and (folder / "exifnorm_pictures/api.py").exists()
+    assert builds.said(windows, HERE / "load.c", folder / "exifnorm/exifnorm.dll") == f"{VERSION} (C): same\n"
 
 
 def test_make(c_folder: Path, folder: Path) -> None:
