@@ -85,8 +85,8 @@ STEPS = (
     Step("`catalogue export`", "catalogue export C tables --quiet", "tables"),
     Step("`report`", "report C --html page/", "page"),
     Step("`verify`", "verify P --jobs 1 --quiet"),
-    Step("`nightly`, the first night", "nightly p --catalogue N", "N", status=1),
-    Step("`nightly`, no news", "nightly p --catalogue N"),
+    Step("`nightly`, the first night", "nightly p --catalogue N --jobs 1", "N", status=1),
+    Step("`nightly`, no news", "nightly p --catalogue N --jobs 1"),
     Step(
         "`index`, an eighth edited and an eighth renamed",
         "index p --catalogue D --jobs 1 --quiet",
@@ -95,7 +95,7 @@ STEPS = (
     ),
     Step("`changed`", "changed C D", status=1),
     Step("`changed --each`", "changed C D --each", status=1),
-    Step("`nightly`, the same news", "nightly p --catalogue N", status=1),
+    Step("`nightly`, the same news", "nightly p --catalogue N --jobs 1", status=1),
 )
 ANSWERS = (
     "list {} --columns keywords",
