@@ -208,7 +208,7 @@ class Scale(WithPictures):
             self.pictures(f"p{count}", count)
             costs = self.counted("index", f"p{count}", "--catalogue", f"c{count}", "--jobs", "2", "--quiet")
             own.append(costs["own statement"])
-            self.assertGreater(costs["statement"] - costs["own statement"], 3 * count)  # a picture's row and those of its two blocks
+            self.assertGreater(costs["statement"] - costs["own statement"], 2 * count)  # a picture's row, and those of its two blocks
         self.assertLess(own[1] - own[0], 50)
         self.assertLess(own[1], 350)  # the pictures of the first tasks, which are short, come one by one
 
