@@ -222,13 +222,10 @@ def forms_of_word(word: str) -> list[str]:
 def put_wanted(catalogue: Catalogue, texts: Iterable[str]) -> int:
     """Keeps the texts of `is`, composed and with NUL as texts are kept, for a condition that has the returned number."""
     composed = {compose(text).replace("\0", "\\x00") for text in texts}
-    with catalogue.guarded():
-        base = catalogue.base
-        base.execute(_WANTED)
-        (number,) = base.execute("SELECT ifnull(max(number), 0) + 1 FROM temp.wanted").fetchone()
-        rows = ((number, text, folded(text)[:HEAD]) for text in composed)
-        base.executemany("INSERT INTO temp.wanted VALUES (?, ?, ?)", rows)
-    return int(number)
+    catalogue.execute(_WANTED)
+    number = catalogue.number_of("SELECT ifnull(max(number), 0) + 1 FROM temp.wanted")
+    catalogue.execute_for(((number, text, folded(text)[:HEAD]) for text in composed), "INSERT INTO temp.wanted VALUES (?, ?, ?)")
+    return number
 
 
 _WANTED = """CREATE TEMP TABLE IF NOT EXISTS wanted
@@ -531,10 +528,9 @@ class Answer:
 
     def _put(self, name: str, numbers: Numbers) -> None:
         """Makes a temporary table of numbers."""
-        with self._catalogue.guarded():
-            self._catalogue.base.execute(f"DROP TABLE IF EXISTS temp.{name}")
-            self._catalogue.base.execute(f"CREATE TEMP TABLE {name} (picture INTEGER PRIMARY KEY)")
-            self._catalogue.base.executemany(f"INSERT INTO temp.{name} VALUES (?)", ((number,) for number in numbers))
+        self._catalogue.execute(f"DROP TABLE IF EXISTS temp.{name}")
+        self._catalogue.execute(f"CREATE TEMP TABLE {name} (picture INTEGER PRIMARY KEY)")
+        self._catalogue.execute_for(((number,) for number in numbers), f"INSERT INTO temp.{name} VALUES (?)")
 
     def pictures(self, labels: Sequence[str] = ()) -> Iterator[tuple[Fitting, Texts]]:
         """The pictures that fit, by path, each with its texts for some labels."""
@@ -551,10 +547,9 @@ class Answer:
         """The texts of some pictures, in their order. A query of each label has those of all these pictures, of which one is in memory."""
         if not labels:
             return repeat(())
-        with self._catalogue.guarded():
-            self._catalogue.base.execute("CREATE TEMP TABLE IF NOT EXISTS shown (place INTEGER PRIMARY KEY, picture INTEGER)")
-            self._catalogue.base.execute("DELETE FROM temp.shown")  # it can't be dropped while pictures are read
-            self._catalogue.base.executemany("INSERT INTO temp.shown (picture) VALUES (?)", ((number,) for number, _ in rows))
+        self._catalogue.execute("CREATE TEMP TABLE IF NOT EXISTS shown (place INTEGER PRIMARY KEY, picture INTEGER)")
+        self._catalogue.execute("DELETE FROM temp.shown")  # it can't be dropped while pictures are read
+        self._catalogue.execute_for(((number,) for number, _ in rows), "INSERT INTO temp.shown (picture) VALUES (?)")
         return zip(*(self._shown_texts(label, rows) for label in labels))
 
     def _shown_texts(self, label: str, pictures: Sequence[tuple[int, bytes]]) -> Iterator[tuple[str, ...] | None]:
@@ -582,8 +577,7 @@ class Answer:
         An index has the paths of all pictures in their order, so that no row is read. If few pictures fit, their paths are sorted.
         """
         few = self._few()
-        with self._catalogue.guarded():
-            cursor = self._catalogue.base.execute(f"SELECT p.id, p.path FROM {few or 'pictures p'} ORDER BY p.path")
+        cursor = self._catalogue.execute(f"SELECT p.id, p.path FROM {few or 'pictures p'} ORDER BY p.path")
         while True:
             with self._catalogue.guarded():
                 rows = cursor.fetchmany(_AT_ONCE)
@@ -613,20 +607,18 @@ class Answer:
     def counted(self, label: str) -> "Iterator[tuple[str, int, str]]":
         """The texts of a label with the number of pictures that have each, the most frequent first, and beside it those that are spelled
         otherwise; and what is common to these."""
-        base = self._catalogue.base
-        base.create_function("bare", 1, bare, deterministic=True)
+        self._catalogue.base.create_function("bare", 1, bare, deterministic=True)
         fits = self._of_fitting()
         counted = "picture" if label in fields_by_label() else "DISTINCT picture"  # a field may have a text twice
-        with self._catalogue.guarded():
-            for statement in _COUNTED:
-                base.execute(statement)
-            for kind in ("long = 0", "long = 1"):  # an index has short texts in their order
-                base.execute(
-                    f"INSERT INTO temp.counted SELECT text, count({counted}), bare(text) FROM texts"
-                    f" WHERE label = ? AND {kind} AND {fits} GROUP BY head, text",
-                    (self._printed(label),),
-                )
-            for statement in _ALIKE:
-                base.execute(statement)
+        for statement in _COUNTED:
+            self._catalogue.execute(statement)
+        for kind in ("long = 0", "long = 1"):  # an index has short texts in their order
+            self._catalogue.execute(
+                f"INSERT INTO temp.counted SELECT text, count({counted}), bare(text) FROM texts"
+                f" WHERE label = ? AND {kind} AND {fits} GROUP BY head, text",
+                (self._printed(label),),
+            )
+        for statement in _ALIKE:
+            self._catalogue.execute(statement)
         yield from self._catalogue.rows(_FREQUENT, (), _counted)
         yield from self._catalogue.rows(_SINGLE, (), _counted)

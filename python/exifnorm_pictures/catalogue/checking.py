@@ -48,11 +48,9 @@ class Checked:
         self._catalogue = catalogue
         self.rules = rules
         self._scope = f"{IN_SCOPE} AND p.path IN {only}" if only else IN_SCOPE
-        base = catalogue.base
         add_functions(catalogue)
         self._allowed: dict[Rule, int] = {}  # the numbers of the texts that rules allow
-        with catalogue.guarded():
-            base.execute("CREATE TEMP TABLE broken (path BLOB, number INTEGER, label TEXT, text TEXT)")
+        catalogue.execute("CREATE TEMP TABLE broken (path BLOB, number INTEGER, label TEXT, text TEXT)")
         for number, rule in enumerate(rules):
             if rule.kind == VALUES:
                 self._allowed[rule] = put_wanted(catalogue, rule.values)
@@ -60,13 +58,11 @@ class Checked:
                 self._put((*row, number, label) for row in self._rows(rule, label))
         self._put(self._disagreeing())
         if only:
-            with catalogue.guarded():
-                base.execute(f"DELETE FROM temp.broken WHERE path NOT IN {only}")
+            catalogue.execute(f"DELETE FROM temp.broken WHERE path NOT IN {only}")
         self._put_not_known()
 
     def _put(self, rows: Iterator[tuple[bytes, str | None, int, str]]) -> None:
-        with self._catalogue.guarded():
-            self._catalogue.base.executemany("INSERT INTO temp.broken (path, text, number, label) VALUES (?, ?, ?, ?)", rows)
+        self._catalogue.execute_for(rows, "INSERT INTO temp.broken (path, text, number, label) VALUES (?, ?, ?, ?)")
 
     def _disagreeing(self) -> Iterator[tuple[bytes, str | None, int, str]]:
         """The pictures that break a rule by texts that differ between Exif, IPTC and XMP."""
@@ -170,14 +166,10 @@ class Checked:
 
     def _put_not_known(self) -> None:
         """Finds the pictures of which it isn't known whether they break further rules."""
-        base = self._catalogue.base
-        with self._catalogue.guarded():
-            base.execute("CREATE INDEX temp.broken_by_path ON broken (path, number)")
-            base.execute("CREATE TEMP TABLE unknown (path BLOB PRIMARY KEY) WITHOUT ROWID")
+        self._catalogue.execute("CREATE INDEX temp.broken_by_path ON broken (path, number)")
+        self._catalogue.execute("CREATE TEMP TABLE unknown (path BLOB PRIMARY KEY) WITHOUT ROWID")
         for label in dict.fromkeys(label for rule in self.rules for label in rule.labels):
-            rows = ((path,) for path in self._may_break(label))
-            with self._catalogue.guarded():
-                base.executemany("INSERT OR IGNORE INTO temp.unknown VALUES (?)", rows)
+            self._catalogue.execute_for(((path,) for path in self._may_break(label)), "INSERT OR IGNORE INTO temp.unknown VALUES (?)")
 
     def _may_break(self, label: str) -> Iterator[bytes]:
         """The pictures that may have a text of a label, or a further one, and then may break a rule that they don't break by what was read."""

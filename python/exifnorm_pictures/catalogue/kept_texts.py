@@ -188,8 +188,7 @@ def _add(catalogue: Catalogue, table: str, pictures: str, after: int, rows: Rows
     """Adds the texts of some pictures to a table: of the next ones after a number. Returns their numbers."""
     query = f"SELECT id FROM ({pictures}) WHERE id > ? ORDER BY id LIMIT ?"
     numbers = [row[0] for row in catalogue.rows(query, (after, AT_ONCE))]
-    with catalogue.guarded():
-        catalogue.base.executemany(put_text(table), (row for number in numbers for row in rows(catalogue, number)))
+    catalogue.execute_for((row for number in numbers for row in rows(catalogue, number)), put_text(table))
     return numbers
 
 

@@ -495,6 +495,16 @@ class Catalogue:
                     raise
             time.sleep(PATIENCE / 1000)
 
+    def execute(self, statement: str, values: Sequence[object] = ()) -> sqlite3.Cursor:
+        """Runs a statement. Raises `NoCatalogue`."""
+        with self.guarded():
+            return self.base.execute(statement, values)
+
+    def execute_for(self, rows: Iterable[Sequence[object]], statement: str) -> None:
+        """Runs a statement for each row of values. Raises `NoCatalogue`."""
+        with self.guarded():
+            self.base.executemany(statement, rows)
+
     def guarded(self) -> "_Guard":
         """Raises `NoCatalogue` with the catalogue's name for an error of SQLite, and for a value that no catalogue has."""
         return _Guard(self)
@@ -554,9 +564,8 @@ class Catalogue:
 
     def begin_run(self, started: str, sidecars: bool = False, whole: bool = False) -> int:
         """A new run; its number."""
-        with self.guarded():
-            values = (self.prepared() // NUMBERS * NUMBERS, started, sidecars, whole)
-            return int(self.base.execute(_BEGIN_RUN, values).lastrowid or 0)
+        values = (self.prepared() // NUMBERS * NUMBERS, started, sidecars, whole)
+        return int(self.execute(_BEGIN_RUN, values).lastrowid or 0)
 
     def was_stopped(self) -> bool:
         """Whether the last run was stopped, so that a catalogue has a part of what it was to find."""
@@ -572,13 +581,11 @@ class Catalogue:
 
     def set_version(self, run: int, exifnorm: str) -> None:
         """Keeps which library makes the digests of a run."""
-        with self.guarded():
-            self.base.execute("UPDATE runs SET exifnorm = ? WHERE id = ?", (exifnorm, run))
+        self.execute("UPDATE runs SET exifnorm = ? WHERE id = ?", (exifnorm, run))
 
     def end_run(self, run: int, ended: str) -> None:
         """Records that a run is complete."""
-        with self.guarded():
-            self.base.execute("UPDATE runs SET ended = ? WHERE id = ?", (ended, run))
+        self.execute("UPDATE runs SET ended = ? WHERE id = ?", (ended, run))
 
     @contextlib.contextmanager
     def transaction(self) -> Iterator[None]:
@@ -627,13 +634,11 @@ class Catalogue:
     @contextlib.contextmanager
     def attached(self, file: str, other: str) -> Iterator[str]:
         """Another SQLite file under a name, while it is read."""
-        with self.guarded():
-            self.base.execute(f"ATTACH ? AS {other}", (address(file),))
+        self.execute(f"ATTACH ? AS {other}", (address(file),))
         try:
             yield other
         finally:
-            with self.guarded():
-                self.base.execute(f"DETACH {other}")
+            self.execute(f"DETACH {other}")
 
     def add_rows(self, other: str, runs: int) -> None:
         """Adds the pictures of an attached file, by SQLite alone; they replace those with the same paths.
@@ -687,8 +692,7 @@ class Catalogue:
         """All that is read inside is of one moment, and the file is locked once for all of it. An answer is about what is there at its end:
         raises `NoCatalogue` if the name leads to no file then, or to another one, or the file was cut."""
         before, size = identity(self.name), _size_of(self.name)
-        with self.guarded():
-            self.base.execute("BEGIN")
+        self.execute("BEGIN")
         try:
             yield
         finally:
@@ -803,9 +807,8 @@ class Catalogue:
 
     def choose(self, paths: Iterable[bytes]) -> str:
         """A temporary table of paths; its name."""
-        with self.guarded():
-            self.base.execute("CREATE TEMP TABLE chosen (path BLOB PRIMARY KEY) WITHOUT ROWID")
-            self.base.executemany("INSERT OR IGNORE INTO chosen VALUES (?)", ((it,) for it in paths))
+        self.execute("CREATE TEMP TABLE chosen (path BLOB PRIMARY KEY) WITHOUT ROWID")
+        self.execute_for(((it,) for it in paths), "INSERT OR IGNORE INTO chosen VALUES (?)")
         return "temp.chosen"
 
     def not_there(self, chosen: str | None) -> Iterator[bytes]:
@@ -816,14 +819,11 @@ class Catalogue:
 
     def roots(self) -> list[bytes]:
         """Each folder that was indexed. No index has them, so all pictures are gone through: once, and again after somebody has written."""
-        state = self._state()
+        # what is other once anybody has written, also another program
+        state = [*(next(self.rows(f"PRAGMA {schema}.data_version"))[0] for schema in self._schemas), self.base.total_changes]
         if self._roots is None or self._roots[0] != state:
             self._roots = state, list(self.rows("SELECT DISTINCT root FROM pictures ORDER BY root", (), root_of_row))
         return list(self._roots[1])
-
-    def _state(self) -> list[int]:
-        """What is other once anybody has written, also another program."""
-        return [*(next(self.rows(f"PRAGMA {schema}.data_version"))[0] for schema in self._schemas), self.base.total_changes]
 
     def forget(self, name: bytes) -> int:
         """Removes a file, or all files below a folder. Returns how many."""

@@ -120,18 +120,15 @@ def verified(before: Catalogue, now: Catalogue, folders: Sequence[bytes]) -> Ite
 
 def _make_tables(before: Catalogue, now: Catalogue) -> None:
     """Makes the temporary tables of both, by which a file and its digest are found."""
-    with now.guarded():
-        # no index of the catalogue itself, which the run that goes on from a stopped one would refuse
-        now.base.execute(f"CREATE TABLE {_DIGESTS} (sha256, picture, PRIMARY KEY (sha256, picture)) WITHOUT ROWID")
-        now.base.execute(f"INSERT INTO {_DIGESTS} SELECT sha256, id FROM pictures WHERE sha256 != '' ORDER BY sha256, id")
-        now.base.execute(f"CREATE TABLE {_KNOWN} (sha256 PRIMARY KEY) WITHOUT ROWID")
-        now.base.execute(f"CREATE TABLE {_SIDECARS} (path BLOB PRIMARY KEY, is_done INTEGER NOT NULL) WITHOUT ROWID")
+    # no index of the catalogue itself, which the run that goes on from a stopped one would refuse
+    now.execute(f"CREATE TABLE {_DIGESTS} (sha256, picture, PRIMARY KEY (sha256, picture)) WITHOUT ROWID")
+    now.execute(f"INSERT INTO {_DIGESTS} SELECT sha256, id FROM pictures WHERE sha256 != '' ORDER BY sha256, id")
+    now.execute(f"CREATE TABLE {_KNOWN} (sha256 PRIMARY KEY) WITHOUT ROWID")
+    now.execute(f"CREATE TABLE {_SIDECARS} (path BLOB PRIMARY KEY, is_done INTEGER NOT NULL) WITHOUT ROWID")
     for row in before.rows("SELECT DISTINCT sha256 FROM pictures WHERE sha256 != ''"):
-        with now.guarded():
-            now.base.execute(f"INSERT INTO {_KNOWN} VALUES (?)", row)
+        now.execute(f"INSERT INTO {_KNOWN} VALUES (?)", row)
     for of_picture in before.rows("SELECT path, sidecars FROM pictures WHERE sidecars != ''", (), _sidecars_of_row):
-        with now.guarded():
-            now.base.executemany(f"INSERT OR IGNORE INTO {_SIDECARS} VALUES (?, 0)", ((path,) for path, _ in of_picture))
+        now.execute_for(((path,) for path, _ in of_picture), f"INSERT OR IGNORE INTO {_SIDECARS} VALUES (?, 0)")
 
 
 def _renumbered(before: Catalogue, now: Catalogue, picture: PictureRecord, there: PictureRecord) -> Verified | None:
@@ -189,9 +186,7 @@ def _without_sidecars(picture: PictureRecord, blocks: Sequence[BlockRecord]) -> 
 
 def _of_sidecar(before: Catalogue, now: Catalogue, sidecar: PictureRecord) -> Iterator[Verified]:
     """The state of a sidecar, the first time that a picture has it."""
-    with now.guarded():
-        first = now.base.execute(f"UPDATE {_SIDECARS} SET is_done = 1 WHERE path = ? AND is_done = 0", (sidecar.path,)).rowcount
-    if not first:
+    if not now.execute(f"UPDATE {_SIDECARS} SET is_done = 1 WHERE path = ? AND is_done = 0", (sidecar.path,)).rowcount:
         return
     there = now.picture(sidecar.path)
     if there is None or there.problem in NOT_THERE:

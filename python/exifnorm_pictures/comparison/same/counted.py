@@ -38,18 +38,15 @@ def make_table(catalogue: Catalogue, choice: Choice, table: str) -> None:
     """
     if next(catalogue.rows("SELECT 1 FROM sqlite_temp_master WHERE name = ?", (table.rpartition(".")[2],)), None):
         return
-    with catalogue.guarded():
-        catalogue.base.execute(f"CREATE TEMP TABLE remaining (id INTEGER PRIMARY KEY, exif, iptc, xmp, repaired, other, {_SUMS})")
+    catalogue.execute(f"CREATE TEMP TABLE remaining (id INTEGER PRIMARY KEY, exif, iptc, xmp, repaired, other, {_SUMS})")
     rows = _rows(catalogue, choice)
     while batch := list(islice(rows, _BATCH)):
-        with catalogue.guarded():
-            catalogue.base.executemany(f"INSERT INTO temp.remaining VALUES (?{', ?' * 7})", batch)
-    with catalogue.guarded():
-        catalogue.base.execute(f"CREATE TABLE {table} AS SELECT {_columns(choice)}, {_MORE} FROM {_JOINED}")
-        catalogue.base.execute("CREATE UNIQUE INDEX temp.counted_by_id ON counted (id)")
-        catalogue.base.execute("CREATE INDEX temp.counted_by_content ON counted (exif, iptc, xmp, not_read)")
-        catalogue.base.execute("CREATE INDEX temp.counted_by_other_exif ON counted (other_exif) WHERE other_exif != ''")
-        catalogue.base.execute("DROP TABLE remaining")
+        catalogue.execute_for(batch, f"INSERT INTO temp.remaining VALUES (?{', ?' * 7})")
+    catalogue.execute(f"CREATE TABLE {table} AS SELECT {_columns(choice)}, {_MORE} FROM {_JOINED}")
+    catalogue.execute("CREATE UNIQUE INDEX temp.counted_by_id ON counted (id)")
+    catalogue.execute("CREATE INDEX temp.counted_by_content ON counted (exif, iptc, xmp, not_read)")
+    catalogue.execute("CREATE INDEX temp.counted_by_other_exif ON counted (other_exif) WHERE other_exif != ''")
+    catalogue.execute("DROP TABLE remaining")
 
 
 _SUMS = "whole, listing"

@@ -152,10 +152,9 @@ def _numbers_of_a_group(catalogue: Catalogue, query: _Query, table: str) -> str:
         return f"SELECT id FROM {table} WHERE {query.where} AND {' AND '.join(f'{column} = ?' for column in query.key)}"
     columns = [f"key{number}" for number in range(len(query.key))]
     definitions = ", ".join(f"{expression} AS {column}" for expression, column in zip(query.key, columns))
-    with catalogue.guarded():
-        number = catalogue.number_of("SELECT count(*) FROM sqlite_temp_master")
-        catalogue.base.execute(f"CREATE TEMP TABLE keys{number} AS SELECT id, {definitions} FROM {table} WHERE {query.where}")
-        catalogue.base.execute(f"CREATE INDEX temp.by_key{number} ON keys{number} ({', '.join(columns)})")
+    number = catalogue.number_of("SELECT count(*) FROM sqlite_temp_master")
+    catalogue.execute(f"CREATE TEMP TABLE keys{number} AS SELECT id, {definitions} FROM {table} WHERE {query.where}")
+    catalogue.execute(f"CREATE INDEX temp.by_key{number} ON keys{number} ({', '.join(columns)})")
     return f"SELECT id FROM temp.keys{number} WHERE {' AND '.join(f'{column} = ?' for column in columns)}"
 
 
