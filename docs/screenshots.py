@@ -41,7 +41,7 @@ SOURCES = (
     "docs/exifnorm.html",
     "python/exifnorm_pictures/report/**/*.*",
     "python/exifnorm_pictures/comparison/changed/edit*.py",
-    "python/exifnorm_pictures/comparison/same/group_sentence.py",
+    "python/exifnorm_pictures/comparison/same/group.py",
 )
 RECORD = DOCS / "screenshots.txt"
 

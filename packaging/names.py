@@ -13,8 +13,7 @@ sys.path.insert(0, str(TOP / "python"))
 
 from exifnorm._causes import CAUSE_WORDS  # noqa: E402
 from exifnorm._jpeg import CAUSES as JPEG_CAUSES  # noqa: E402
-from exifnorm_pictures.fields.names import TABLES  # noqa: E402
-from exifnorm_pictures.fields.plain_names import group_of, plain_name  # noqa: E402
+from exifnorm_pictures.fields.names import TABLES, group_of, plain_name  # noqa: E402
 
 # of EXIFNORM_DIRECTORY_MAIN and those after it
 DIRECTORIES = ("main", "iptc", "exif", "interop", "gps", "thumb")

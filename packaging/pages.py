@@ -26,7 +26,7 @@ TOP = Path(__file__).resolve().parent.parent
 sys.path.insert(0, str(TOP / "python"))
 
 from exifnorm_pictures.cli import parser, topics  # noqa: E402
-from exifnorm_pictures.export.tables import SCHEMA as TABLES  # noqa: E402
+from exifnorm_pictures.export.rows import SCHEMA as TABLES  # noqa: E402
 from exifnorm_pictures.fields import rules  # noqa: E402
 
 OBJECTS = TOP / "python" / "exifnorm_pictures" / "output.schema.json"

@@ -17,10 +17,10 @@ sys.path[:0] = [str(TOP / "python")]
 from exifnorm._causes import OF_HEADS, OF_PACKETS
 from exifnorm_pictures.comparison.changed import edits
 from exifnorm_pictures.extract import structure
-from exifnorm_pictures.extract.formats import heif, heif_items, jpeg_segments, tiff, tiff_entries, trailers, webp
-from exifnorm_pictures.fields import labels, listing, names, own_texts, plain_names, plain_values, typed, xmp_types
-from exifnorm_pictures.model import budgets, found, tiff_types, xmp_names
-from exifnorm_pictures.model.results import Result
+from exifnorm_pictures.extract.formats import heif, jpeg_segments, tiff, tiff_directories, trailers, webp
+from exifnorm_pictures.fields import labels, listing, names, plain_values, typed
+from exifnorm_pictures.model import found, tiff_types, xmp_names
+from exifnorm_pictures.model.texts import Result
 from exifnorm_pictures.refusals import causes
 
 _OF_RESULTS = {  # by the words of the scripts
@@ -41,7 +41,7 @@ RESULTS = {
 def names_of(where: str) -> dict[str, str]:
     """The names of a directory's fields by tag or DataSet."""
     keys = {key for table in names.TABLES[where] for key in table}
-    return {key: plain_names.plain_name(where, key) for key in sorted(keys)}
+    return {key: names.plain_name(where, key) for key in sorted(keys)}
 
 
 def labels_of() -> dict[str, str]:
@@ -61,8 +61,8 @@ def labels_of() -> dict[str, str]:
 
 def own_texts_of() -> dict[str, Any]:
     """The rules of texts that cameras and programs write by themselves. JavaScript writes the end of a text in another way."""
-    rules = {"program": own_texts._PROGRAM, "camera": own_texts._CAMERA, "file": own_texts._FILE.replace(r"\Z", "$")}
-    return {"texts": sorted(own_texts._TEXTS), **rules, "filling": sorted(own_texts._FILLING)}
+    rules = {"program": labels._PROGRAM, "camera": labels._CAMERA, "file": labels._FILE.replace(r"\Z", "$")}
+    return {"texts": sorted(labels._TEXTS), **rules, "filling": sorted(labels._FILLING)}
 
 
 def _words(names: Iterable[bytes]) -> list[str]:
@@ -75,7 +75,7 @@ def of_formats() -> dict[str, Any]:
         "private": structure.PRIVATE,
         "links": structure._LINKS,
         "sizes": {number: it.size for number, it in tiff_types.TIFF.items()},
-        "pixels": [*tiff_entries.PIXELS],
+        "pixels": [*tiff_directories.PIXELS],
         "notCompared": [[marker, head.decode("latin-1")] for marker, head, _ in jpeg_segments.RESTS if head],
         "trailers": [[sign.decode("latin-1").replace(r"\Z", "$"), it.name] for sign, it in trailers._SIGNS],
         "mayHave": [*found._MAY_HAVE.items()],
@@ -84,10 +84,10 @@ def of_formats() -> dict[str, Any]:
         "ofPixels": tiff._PAIRS,
         "webp": _words({*webp.PIXELS, b"VP8X", b"ICCP"}),
         "brands": _words(heif.BRANDS),
-        "items": _words(heif_items.PICTURES),
+        "items": _words(heif.PICTURES),
         "boxes": _words(heif._WITHOUT),
-        "boxesInMeta": _words({*heif_items.READERS, b"iprp", *heif._WITHOUT_IN_META}),
-        "limits": {name.replace(" ", "_"): most for name, most in budgets.LIMITS.items()} | {"packet": budgets.PACKET_BYTES},
+        "boxesInMeta": _words({*heif.READERS, b"iprp", *heif._WITHOUT_IN_META}),
+        "limits": {name.replace(" ", "_"): most for name, most in found.LIMITS.items()} | {"packet": found.PACKET_BYTES},
     }
 
 
@@ -111,8 +111,8 @@ def tables() -> dict[str, Any]:
         **of_formats(),
         **of_fields(),
         "results": RESULTS,
-        "groups": plain_names._GROUPS,
-        "names": {**{where: names_of(where) for where in names.TABLES}, "thumb": {**names_of("thumb"), **plain_names._PICTURES}},
+        "groups": names._GROUPS,
+        "names": {**{where: names_of(where) for where in names.TABLES}, "thumb": {**names_of("thumb"), **names._PICTURES}},
         "words": plain_values.WORDS,
         "flash": plain_values.FLASH,
         "noFlash": plain_values.NO_FLASH,
@@ -127,7 +127,7 @@ def tables() -> dict[str, Any]:
         "labelled": labels.label_of_fields(),
         "byThemselves": edits.BY_THEMSELVES,
         "own": own_texts_of(),
-        "types": xmp_types.TYPES,
+        "types": typed.TYPES,
     }
 
 

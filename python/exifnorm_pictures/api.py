@@ -20,15 +20,13 @@ from .fields.field import Field
 from .files import opening
 from .files.session import Session
 from .judge.judge import judge_all
-from .model.budgets import PROGRAM_SECONDS, Budget, TooMuch
-from .model.found import EXIF, NAMES
-from .model.problems import Problem
+from .model.found import EXIF, NAMES, PROGRAM_SECONDS, Budget, TooMuch
+from .model.texts import Problem, Result
 from .model.records import PictureRecord, Stamp
-from .model.results import Result
 from .picture import Picture
 
 if TYPE_CHECKING:
-    from .comparison import differing
+    from .comparison import wording
 
 PathLike = Union[str, bytes, "os.PathLike[str]", "os.PathLike[bytes]"]
 Source = Union[PathLike, BinaryFile]
@@ -331,7 +329,7 @@ def _with_pixels(picture: Picture) -> PictureRecord:
     return record._replace(coded_picture=coded, beside=beside, damage=record.damage or damage, sha256=sha256, file=file)
 
 
-def _difference(change: differing.FieldDifference) -> Difference:
+def _difference(change: wording.FieldDifference) -> Difference:
     block = change.block or NAMES.get(change.directory, NAMES[EXIF])
     before, after = (tuple(it._in_block(block) for it in side) or None for side in (change.before, change.after))
     return Difference(change.name, before, after, change.is_equal_number, change.note)

@@ -12,13 +12,12 @@ from exifnorm._words import documented
 
 from .comparison.origin import Origin
 from .extract.extraction import failed
-from .fields.block_fields import fields_of
+from .fields.packing import fields_of
 from .fields.character_sets import in_found_set
-from .fields.plain_names import spellings
-from .fields.shown import Shown
+from .fields.names import spellings
+from .fields.listing import Shown
 from .judge.judge import judge_all
-from .model.budgets import TooMuch
-from .model.found import EXIF, IPTC, NAMES, STANDARDS, XMP, Blocks, cut, not_known
+from .model.found import EXIF, IPTC, NAMES, STANDARDS, XMP, Blocks, TooMuch, cut, not_known
 from .model.records import BlockRecord, PictureRecord
 from .model.steps import loses
 from .model.texts import Members, path_members
@@ -324,7 +323,7 @@ class Picture(Mapping[str, "Value"]):
         """The same, or else the fields that other programs name so."""
         if own := self._own(name):
             return own
-        from .fields.structures import with_other_name  # which few names need
+        from .fields.field_names import with_other_name  # which few names need
 
         named = ((record, with_other_name(fields, name.casefold())) for record, fields in self._of_blocks())
         return [it for it in named if it[1]]
@@ -459,7 +458,7 @@ class Picture(Mapping[str, "Value"]):
     def _taken_by_exif(self) -> datetime | None:
         from datetime import datetime
 
-        from .fields.xmp_types import object_of
+        from .fields.typed import object_of
 
         when, *more = map(self._first, ("ExifIFD:DateTimeOriginal", "ExifIFD:SubSecTimeOriginal", "ExifIFD:OffsetTimeOriginal"))
         if not isinstance(when, datetime):

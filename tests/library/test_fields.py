@@ -14,8 +14,7 @@ from commands import TOP, run, text_of
 from compiling import C99, HEADERS, HERE, STRICT, need
 from exifnorm._causes import CAUSE_WORDS
 from exifnorm._jpeg import CAUSES
-from exifnorm_pictures.fields.names import TABLES
-from exifnorm_pictures.fields.plain_names import group_of, plain_name
+from exifnorm_pictures.fields.names import TABLES, group_of, plain_name
 from judged import NAMES, all_judged
 from made_files import app1_xmp, xmp
 from small_packets import small_packets

@@ -76,7 +76,7 @@ def both(native, shared, monkeypatch, folder):
     library = _library.Library(str(shared))
     monkeypatch.setattr(looking, "FINE", 0)  # a file is looked at in the tick in which it is written
     made = {name: getattr(library, name) for name in ("packed", "xmp_packed", "jpeg_record")}
-    for module in ("scan.looking", "fields.normal_form", "fields.xmp_properties"):
+    for module in ("scan.looking", "judge.judge", "fields.xmp_properties"):
         monkeypatch.setattr(f"exifnorm_pictures.{module}.library", lambda: library)
 
     def results(octets):
@@ -154,7 +154,7 @@ def test_usual_pictures_are_not_left(loaded, folder):
 def test_fields_are_packed_for_a_catalogue_alone(loaded, monkeypatch, folder):
     """A program that reads a picture doesn't wait for what a catalogue keeps."""
     called = []
-    for module in ("scan.looking", "fields.normal_form", "fields.xmp_properties"):
+    for module in ("scan.looking", "judge.judge", "fields.xmp_properties"):
         monkeypatch.setattr(f"exifnorm_pictures.{module}.library", lambda: loaded)
     for name in ("packed", "xmp_packed", "jpeg_record"):
         monkeypatch.setattr(loaded, name, lambda *_, name=name: called.append(name))

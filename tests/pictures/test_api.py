@@ -33,8 +33,8 @@ import exifnorm_pictures
 from exifnorm import pictures
 from exifnorm_pictures import many
 from exifnorm_pictures.catalogue import texts
-from exifnorm_pictures.extract import readers
-from exifnorm_pictures.fields import labels, packing, xmp_types
+from exifnorm_pictures.extract import extraction
+from exifnorm_pictures.fields import labels, packing, typed as xmp_types
 from exifnorm_pictures.fields.field import Field
 
 BEFORE, AFTER = (Path(TOP) / "samples" / it for it in ("before", "after"))
@@ -370,8 +370,10 @@ FORMATS = {
 
 def test_each_format_has_its_file():
     """A new format needs one above, for the tests of all formats."""
-    heads = {name: (data[: readers.HEAD], f"a.{name}".encode()) for name, data in FORMATS.items()}
-    assert {it.name for it in readers.FORMATS} == {next(it.name for it in readers.FORMATS if it.is_of(*head)) for head in heads.values()}
+    heads = {name: (data[: extraction.HEAD], f"a.{name}".encode()) for name, data in FORMATS.items()}
+    assert {it.name for it in extraction.FORMATS} == {
+        next(it.name for it in extraction.FORMATS if it.is_of(*head)) for head in heads.values()
+    }
 
 
 class Unseekable(io.RawIOBase):
@@ -758,10 +760,10 @@ def test_blocks_are_read_once(monkeypatch):
     calls, made = [], []
     normal = exifnorm.normal
     monkeypatch.setattr(exifnorm, "normal", lambda block: calls.append(block) or normal(block))
-    from exifnorm_pictures.fields import normal_form
+    from exifnorm_pictures.judge import judge
 
-    of_form = normal_form.fields_of_form
-    monkeypatch.setattr(normal_form, "fields_of_form", lambda form: made.append(form) or of_form(form))
+    of_form = judge.fields_of_form
+    monkeypatch.setattr(judge, "fields_of_form", lambda form: made.append(form) or of_form(form))
     bowl = pictures.read(BEFORE / BOWL)
     assert (bowl.meaning is not None, bowl.refusals, len(calls), len(made)) == (True, (), 2, 0)
     assert bowl.captions and bowl["IFD0:Model"] and list(bowl.fields) and len(calls) == 2 and len(made) == 2

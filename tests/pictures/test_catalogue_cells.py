@@ -12,12 +12,12 @@ from test_repairs import REFUSED
 
 from exifnorm_pictures.catalogue.store import Catalogue
 from exifnorm_pictures.cli import main
-from exifnorm_pictures.fields import block_fields, lines, packing
+from exifnorm_pictures.fields import packing
 from exifnorm_pictures.fields.field import Field
 from exifnorm_pictures.judge import judge
+from exifnorm_pictures.model.records import BLOCKS, PICTURES, block_of_row, not_read_of_row
 from exifnorm_pictures.model.columns import Damaged
 from exifnorm_pictures.model.found import Blocks
-from exifnorm_pictures.model.records import BLOCKS, PICTURES, block_of_row, not_read_of_row
 
 VALUES = {
     "NULL": None,
@@ -143,7 +143,7 @@ def test_fields_of_many_blocks(words, catalogue, capsys, monkeypatch):
             base.execute(query.format(names))
         base.execute("UPDATE blocks SET fields = ? WHERE picture = 1", (LONG,))
     base.close()
-    monkeypatch.setattr(block_fields, "unpacked", lambda _: pytest.fail("unpacked"))
+    monkeypatch.setattr(packing, "unpacked", lambda _: pytest.fail("unpacked"))
     assert main.main(words) == 4
     assert "too long" in capsys.readouterr().err
 
@@ -157,7 +157,7 @@ def test_fields_are_unpacked_where_they_are_needed(tmp_path, monkeypatch, called
     put("p", {"b.jpg": with_exif(SMALL_JPEG, b"no block either")})
     called("index", "p", "--catalogue", "after", "--pixels", "--sidecars", "--quiet")
     asked = []
-    monkeypatch.setattr(block_fields, "parted", lambda cells: asked.append(cells) or lines.parted(cells))
+    monkeypatch.setattr(packing, "parted", lambda cells: asked.append(cells) or packing.parted(cells))
     for words in (
         ["changed", "before", "after"],
         ["verify", "after", "--quiet"],
@@ -167,7 +167,7 @@ def test_fields_are_unpacked_where_they_are_needed(tmp_path, monkeypatch, called
     with Catalogue("before") as base:
         blocks = base.blocks_of(next(base.pictures()))
         assert [block.name for block in blocks] == ["XMP", "Exif", "XMP sidecar"] and not asked
-        assert [len(block_fields.fields_of(block)) for block in blocks * 2] == [1, 1, 1] * 2 and len(asked) == 1
+        assert [len(packing.fields_of(block)) for block in blocks * 2] == [1, 1, 1] * 2 and len(asked) == 1
     put("p", {"a.jpg": jpeg(app1(exif(b"Otto")), app1_xmp(title("one")))})
     called("index", "p", "--catalogue", "after", "--sidecars", "--quiet")
     assert called("changed", "before", "after")[0] == 2 and len(asked) == 3, "once for each side"
@@ -193,18 +193,18 @@ def test_what_index_writes_is_read(monkeypatch):
         blocks.add("iptc", b"".join(b"\x1c\2\x19\0\x04%04d" % (number if it == 0 else it) for it in range(300)), f"page {number}")
     judged = judge.judge_all(blocks, packs=True)
     one = len(judged[0].fields)
-    assert len(lines.joined([judged[0].fields])[0]) * 4 < one
+    assert len(packing.joined([judged[0].fields])[0]) * 4 < one
     for limit, kept in ((3 * one, 3), (3 * one - 1, 2), (6 * one, 6)):
         monkeypatch.setattr(judge, "KEPT_BYTES", limit)
-        monkeypatch.setattr(lines, "KEPT_BYTES", limit)
+        monkeypatch.setattr(packing, "KEPT_BYTES", limit)
         judged = judge.judge_all(blocks, packs=True)
-        cells = lines.joined([it.fields for it in judged])
-        fields = [packing.unpacked(it) for it in lines.parted(cells)]
+        cells = packing.joined([it.fields for it in judged])
+        fields = [packing.unpacked(it) for it in packing.parted(cells)]
         assert sum(len(found) == 300 for found in fields) == kept
         if kept < 6:
-            monkeypatch.setattr(lines, "KEPT_BYTES", 2 * one - 1)
+            monkeypatch.setattr(packing, "KEPT_BYTES", 2 * one - 1)
             with pytest.raises(Damaged):
-                lines.parted(cells)
+                packing.parted(cells)
 
 
 ROWS = {

@@ -12,7 +12,7 @@ from made_blocks import BLOCKS, LONG, MAKE, block, entry, table
 from made_files import app1, app1_xmp, exif, iim, jpeg, with_record, xmp
 from studio import SMALL_JPEG, needs, put, tool
 
-from exifnorm_pictures.comparison.changed.block_pairs import Weight, weights_of
+from exifnorm_pictures.comparison.changed.states import Weight, weights_of
 from exifnorm_pictures.fields.choosing import SAVES, Choice, kinds_of
 from exifnorm_pictures.model.found import EXIF, IPTC, XMP
 

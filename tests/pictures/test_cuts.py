@@ -38,7 +38,7 @@ from made_raw import LENGTH, STRIP, SUB_IFDS, inner
 from studio import needs, put
 from test_bigtiff import big
 
-from exifnorm_pictures.model.results import Result
+from exifnorm_pictures.model.texts import Result
 
 IPTC_UUID = bytes.fromhex("33c7a4d2b81d4723a0baf1a3e097ad38")
 COMMENT = segment(0xFE, b"a comment of some length")

@@ -4,22 +4,17 @@ import re
 from collections import Counter
 
 import pytest
-from hypothesis import given
-from hypothesis import strategies as st
+from hypothesis import given, strategies as st
 from exact_fields import field
 
-from exifnorm_pictures.cli import summary as page
+from exifnorm_pictures.cli import changed_tables as page
 from exifnorm_pictures.comparison.changed import edit_groups, summary
 from exifnorm_pictures.comparison.changed.states import Compared
-from exifnorm_pictures.comparison.differing import differences
+from exifnorm_pictures.comparison.wording import Marker, differences, look
 from exifnorm_pictures.comparison.changed.edit_groups import Kinds
-from exifnorm_pictures.comparison.changed.edit_words import line_of
-from exifnorm_pictures.comparison.changed.edits import edits_of
-from exifnorm_pictures.comparison.changed.marking import Marker
+from exifnorm_pictures.comparison.changed.edits import line_of, edits_of
 from exifnorm_pictures.comparison.changed.summary import lacking_of
-from exifnorm_pictures.comparison.wording import look
-from exifnorm_pictures.model.results import Result
-from exifnorm_pictures.model.texts import safe
+from exifnorm_pictures.model.texts import Result, safe
 from exifnorm_pictures.model.verdicts import Verdict
 
 

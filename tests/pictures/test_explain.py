@@ -6,7 +6,7 @@ import unittest
 from made_blocks import BLOCKS
 
 from exifnorm_pictures.model.found import EXIF, IPTC
-from exifnorm_pictures.refusals import explain, layout
+from exifnorm_pictures.refusals import explain
 
 # What else a file may be, by its first bytes
 BEGINNINGS = (
@@ -36,7 +36,7 @@ class Explanations(unittest.TestCase):
         """Of each block, of what is no block, and at the ends of records and directories: in golden/explain-here.txt."""
         found = [(name, explain.explain(kind_of(octets), octets).here) for name, octets in BLOCKS.items()]
         found += [(repr(octets), explain.explain(EXIF, octets).here) for octets in (*BEGINNINGS, *DIRECTORIES)]
-        found += [(f"{octets[-10:]!r} at {place}", explain._data_set(layout.Layout(octets), "", place)) for octets, place in RECORDS]
+        found += [(f"{octets[-10:]!r} at {place}", explain._data_set(explain.Layout(octets), "", place)) for octets, place in RECORDS]
         self.golden("explain-here.txt", "".join("\n    ".join([name, *here]) + "\n" for name, here in found))
 
 
@@ -87,7 +87,7 @@ class PartsOfBlocks(unittest.TestCase):
         """And all entries, and the first bytes and the last: in golden/explain-parts.txt."""
         lines = []
         for name, octets in {**{name: octets for name, octets in BLOCKS.items() if len(octets) < 3000}, **MORE}.items():
-            it = layout.Layout(octets)
+            it = explain.Layout(octets)
             lines += [
                 name,
                 *(f"  {part.start}-{part.end} {part.what}, {[one[:2] for one in it.owners(part.named_at) or ()]}" for part in it.parts),
@@ -95,15 +95,15 @@ class PartsOfBlocks(unittest.TestCase):
             entries = sorted(it.entries.items())
             lines += [f"  {at}: {one.number}, {one.label}, {one.form}, {one.last}, {one.size}, {one.place}" for at, one in entries]
         for length, place in ((128, 0), (128, 15), (128, 16), (128, 40), (128, 79), (128, 127), (128, 128), (128, 200), (17, 16), (0, 0)):
-            lines += [f"byte {place} of {length}", *layout.hexadecimal(bytes(range(0x10, 0x10 + length)), place)]
+            lines += [f"byte {place} of {length}", *explain.hexadecimal(bytes(range(0x10, 0x10 + length)), place)]
         self.golden("explain-parts.txt", "\n".join(lines) + "\n")
 
     def test_owners(self):
         """The first part of an entry that shares bytes with an earlier part; neighbours and empty parts share none."""
 
         def owners(*ranges):
-            it = layout.Layout(b"")
-            it.parts += [layout.Part(start, end, "", 10 + index) for index, (start, end) in enumerate(ranges)]
+            it = explain.Layout(b"")
+            it.parts += [explain.Part(start, end, "", 10 + index) for index, (start, end) in enumerate(ranges)]
             found = it.owners(9 + len(ranges))
             return found and [tuple(part)[:2] for part in found]
 

@@ -17,8 +17,7 @@ from test_captions import data_set, with_record, with_texts
 from test_groups import FILES as TWINS
 from test_maker_notes import noted
 
-from exifnorm_pictures.export.rows import FieldRows
-from exifnorm_pictures.export.tables import _EMPTY_IS_NULL, Tables
+from exifnorm_pictures.export.rows import _EMPTY_IS_NULL, FieldRows, Tables
 from exifnorm_pictures.fields.field import Field
 from exifnorm_pictures.fields.packing import packed, unpacked
 from exifnorm_pictures.model.columns import Damaged

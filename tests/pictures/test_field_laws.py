@@ -11,13 +11,13 @@ from random import Random
 
 import exifnorm
 import pytest
-from hypothesis import given
-from hypothesis import strategies as st
+from hypothesis import given, strategies as st
 from made_files import xmp
 from meanings import ASCII, BYTE, LONG, RATIONAL, SBYTE, SHORT, TYPES, UNDEFINED, UTF8, Exif, Layout, Record, Value, laid
 
 from exifnorm_pictures import xmp as statements_of
-from exifnorm_pictures.fields import labels, normal_form, plain_values, typed, xmp_properties
+from exifnorm_pictures.fields import labels, plain_values, typed, xmp_properties
+from exifnorm_pictures.judge import judge
 from exifnorm_pictures.fields.listing import exact, kept_value
 from exifnorm_pictures.fields.packing import packed, unpacked
 from exifnorm_pictures.model.xmp_values import Long
@@ -80,7 +80,7 @@ def two_blocks(draw):
 
 
 def fields_of(meaning, order="<"):
-    return normal_form.fields_of_form(exifnorm.normal(laid(meaning, Layout(order, chance=Random(1), shuffled=True, gap=4))))
+    return judge.fields_of_form(exifnorm.normal(laid(meaning, Layout(order, chance=Random(1), shuffled=True, gap=4))))
 
 
 @given(two_blocks())
@@ -134,7 +134,7 @@ def test_raw_bytes_are_those_of_the_normal_form(meaning):
     normal = exifnorm.normal(laid(meaning, Layout("<", chance=Random(1))))
     sizes = {**dict.fromkeys(("SHORT", "SSHORT"), 2), **dict.fromkeys(("LONG", "SLONG", "FLOAT", "WHOLE"), 4)}
     sizes.update(dict.fromkeys(("RATIONAL", "SRATIONAL", "DOUBLE"), 8))
-    for field in normal_form.fields_of_form(normal):
+    for field in judge.fields_of_form(normal):
         assert field.raw in normal and len(field.raw) == field.count * sizes.get(field.type, 1), field
 
 

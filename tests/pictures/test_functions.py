@@ -14,18 +14,17 @@ from made_files import xmp as packet_of
 from studio import name_of
 
 from exifnorm_pictures import xmp
-from exifnorm_pictures.cli import letter, names, output, parser
-from exifnorm_pictures.cli.commands import report
-from exifnorm_pictures.cli.options import Files
-from exifnorm_pictures.comparison import differing
+from exifnorm_pictures.cli import names, output, parser
+from exifnorm_pictures.cli.commands import nightly, report
+from exifnorm_pictures.cli.output import Files
+from exifnorm_pictures.comparison import wording
 from exifnorm_pictures.extract import exiftool, programs
 from exifnorm_pictures.fields import listing, plain_texts, xmp_properties
 from exifnorm_pictures.fields.field import Field
 from exifnorm_pictures.files.session import Session
-from exifnorm_pictures.model import records, sides, texts, verdicts
+from exifnorm_pictures.model import records, texts, verdicts
 from exifnorm_pictures.model.found import NotRead
-from exifnorm_pictures.model.records import BlockRecord, PictureRecord, Stamp
-from exifnorm_pictures.model.sides import Side
+from exifnorm_pictures.model.records import BlockRecord, PictureRecord, Side, Stamp
 from exifnorm_pictures.model.verdicts import Verdict
 from exifnorm_pictures.refusals import mend
 from exifnorm_pictures.scan import moved, walk
@@ -206,7 +205,7 @@ IN_ORDER = "main 010f, exif 9003, gps 0001, thumb 0112, thumb ffff, thumb jpeg, 
 
 
 def names_in_order(fields):
-    return [f"{it.directory} {it.tag}" for it in differing.differences([], [Field(*it.split(), "SHORT", 1, (1,)) for it in fields])]
+    return [f"{it.directory} {it.tag}" for it in wording.differences([], [Field(*it.split(), "SHORT", 1, (1,)) for it in fields])]
 
 
 RESULTS = [
@@ -233,17 +232,17 @@ RESULTS = [
     (result, ([SAME, REFUSED_SAME, UNREADABLE_SAME], ("a",)), "not wholly read"),
     (result, ([SAME, REFUSED_SAME, UNREADABLE_SAME],), "refused, the same bytes"),
     (result, ([SAME, UNREADABLE_SAME],), "unreadable, the same bytes"),
-    (sides.side_of, ([],), Side("absent", "", "")),
-    (sides.side_of, ([block("Exif")],), Side("accepted", "d", "o")),
+    (records.side_of, ([],), Side("absent", "", "")),
+    (records.side_of, ([block("Exif")],), Side("accepted", "d", "o")),
     (
-        sides.side_of,
+        records.side_of,
         ([block("second Exif")],),
         Side("accepted", hashlib.sha256(b"second Exif: d").hexdigest(), digits(b"second Exif: o", 64)),
     ),
-    (sides.side_of, ([block("Exif", "refused", None)],), Side("refused", "", "o")),
-    (sides.side_of, ([block("XMP", "too long", None, kind="xmp")],), Side("unreadable", "", "o")),
-    (sides.side_of, (BOTH,), Side("accepted", hashlib.sha256(b"Exif: d\nsecond Exif: e").hexdigest(), OCTETS_OF_BOTH)),
-    (sides.side_of, ([BOTH[0], block("second Exif", "failed", None, "p")],), Side("refused", "", OCTETS_OF_BOTH)),
+    (records.side_of, ([block("Exif", "refused", None)],), Side("refused", "", "o")),
+    (records.side_of, ([block("XMP", "too long", None, kind="xmp")],), Side("unreadable", "", "o")),
+    (records.side_of, (BOTH,), Side("accepted", hashlib.sha256(b"Exif: d\nsecond Exif: e").hexdigest(), OCTETS_OF_BOTH)),
+    (records.side_of, ([BOTH[0], block("second Exif", "failed", None, "p")],), Side("refused", "", OCTETS_OF_BOTH)),
     (verdicts.left_open, ([KNOWN], [KNOWN]), []),
     (verdicts.left_open, ([KNOWN, KNOWN], [KNOWN]), ["b"]),
     (verdicts.left_open, ([KNOWN, OTHER_PART], [OTHER_PART, KNOWN]), []),
@@ -284,10 +283,10 @@ RESULTS = [
     *((report._is_page, (it,), True) for it in (b"<!DOCTYPE html>", b"<!doctype HTML>")),
     *((report._is_page, (it,), False) for it in (b"<!DOCTYPE htm", b" <!DOCTYPE html>", b"")),
     # the pictures of a night that changed like no other: 20 have their values, below a head and an empty line
-    (lambda groups: list(letter.letter("a", [], [], groups)), ([ODD] * 20,), ["a", "", *["  x.jpg title: [-one-]{+two+}"] * 20]),
-    (lambda groups: len([*letter.letter("a", [], [], groups)]), ([ODD] * 21,), 22),
+    (lambda groups: list(nightly.letter("a", [], [], groups)), ([ODD] * 20,), ["a", "", *["  x.jpg title: [-one-]{+two+}"] * 20]),
+    (lambda groups: len([*nightly.letter("a", [], [], groups)]), ([ODD] * 21,), 22),
     # an edit in a long text: a line has room for what was edited, and not for the text around it
-    (lambda groups: list(letter.letter("a", [], [], groups))[2:], ([LONG],), ["  x.jpg title: [-one-]{+two+}"]),
+    (lambda groups: list(nightly.letter("a", [], [], groups))[2:], ([LONG],), ["  x.jpg title: [-one-]{+two+}"]),
 ]
 
 
@@ -543,11 +542,11 @@ def of_kind(kind, count, text):
 )
 def test_values_in_a_list_of_changes(fields, text):
     """The values of a repeated field are one list; numbers have their type, and texts don't."""
-    assert differing.bare(fields) == text
-    (came,), (went,) = differing.differences([], fields), differing.differences(fields, [])
+    assert wording.bare(fields) == text
+    (came,), (went,) = wording.differences([], fields), wording.differences(fields, [])
     assert (came.before, list(came.after), came.sign) == ((), fields, "+")
     assert (list(went.before), went.after, went.sign) == (fields, (), "-")
-    assert differing.differences(fields, fields) == []
+    assert wording.differences(fields, fields) == []
 
 
 @pytest.mark.parametrize("octets, by_nul, expected", [(b"a\n\nb", False, [b"a", b"b"]), (b"a\nb\0\0c", True, [b"a\nb", b"c"])])

@@ -8,8 +8,9 @@ from studio import put
 from test_attacks import RAW, run_each
 from test_list import picture
 
-from exifnorm_pictures.catalogue import bags, store
-from exifnorm_pictures.cli import word_files
+from exifnorm_pictures.catalogue import store
+from exifnorm_pictures.comparison import verified
+from exifnorm_pictures.cli import names
 from exifnorm_pictures.fields import questions, tokens
 from exifnorm_pictures.files import folders
 from exifnorm_pictures.scan import walk
@@ -180,10 +181,10 @@ def test_a_line_that_is_long_is_shown_around_its_mistake(archive, called):
 LISTS = {
     "names": ("", "names", b"p/a.jpg", (walk, "LONGEST_LIST"), "same c --files-from names", 3),
     "many names": ("", "names", b"\n", (walk, "MOST_NAMES"), "same c --files-from names", 3),
-    "rules": ("", "rules", b"title is A", (word_files, "_LONGEST"), "check c --rules rules", 3),
-    "words": ("", "words", b"A", (word_files, "_LONGEST"), "check c --rules of-words", 3),
-    "fields": ("", "names", b"Make", (word_files, "_LONGEST"), "compare p/a.jpg p/b.jpg --only @names", 3),
-    "a manifest's line": ("", "bag/manifest-sha256.txt", b"0" * 64 + b"  data/", (bags, "_LONGEST_LINE"), "verify --bag bag", 3),
+    "rules": ("", "rules", b"title is A", (names, "_LONGEST"), "check c --rules rules", 3),
+    "words": ("", "words", b"A", (names, "_LONGEST"), "check c --rules of-words", 3),
+    "fields": ("", "names", b"Make", (names, "_LONGEST"), "compare p/a.jpg p/b.jpg --only @names", 3),
+    "a manifest's line": ("", "bag/manifest-sha256.txt", b"0" * 64 + b"  data/", (verified, "_LONGEST_LINE"), "verify --bag bag", 3),
     "pages": ("report c --html r/", "r/exifnorm-report", None, (folders, "_LONGEST"), "report c --html r/", 4),
     **{
         f"catalogues: {words}": ("index p --shards d --quiet", "d/catalogues", None, (store, "_LONGEST_LIST"), words, 4)

@@ -12,15 +12,16 @@ from exifnorm_pictures.catalogue import store
 from exifnorm_pictures.catalogue.store import Catalogue, NoCatalogue
 from exifnorm_pictures.cli import main
 from exifnorm_pictures.comparison.changed import states as changed, pairs
-from exifnorm_pictures.extract import extraction, readers
+from exifnorm_pictures.extract import extraction
 from exifnorm_pictures.extract.formats import png
 from exifnorm_pictures.files import opening, signals
-from exifnorm_pictures.fields import lines, packing
+from exifnorm_pictures.fields import packing
 from exifnorm_pictures.fields.listing import exact
 from exifnorm_pictures.judge import judge
 from exifnorm_pictures.model import records
 from exifnorm_pictures.model.found import Blocks, NotRead
-from exifnorm_pictures.model.records import BlockRecord, Damaged, PictureRecord, Stamp
+from exifnorm_pictures.model.records import BlockRecord, PictureRecord, Stamp
+from exifnorm_pictures.model.columns import Damaged
 from hypothesis import given, strategies as st
 from made_files import app1, exif, jpeg, png as made_png
 from studio import errors, put, run
@@ -194,7 +195,7 @@ def test_a_report_of_a_damaged_catalogue(command, values):
 )
 def test_fields_that_are_damaged(octets):
     with pytest.raises(Damaged):
-        for text in lines.parted([octets]):
+        for text in packing.parted([octets]):
             packing.unpacked(text)
 
 
@@ -204,8 +205,8 @@ TEXTS = st.none() | st.sampled_from([b"[]", b'[["main","010f","ASCII",4,"abc"]]'
 @given(st.lists(TEXTS, max_size=6))
 def test_the_fields_of_each_block_are_read_again(texts):
     """Whatever blocks have none, and however many share a text, which is kept once."""
-    cells = lines.joined(texts)
-    assert lines.parted(cells) == texts
+    cells = packing.joined(texts)
+    assert packing.parted(cells) == texts
     assert sum(len(it) for it in cells if it) < 400 + 40 * len(texts)
 
 
@@ -238,14 +239,14 @@ def test_keys_of_fields_that_are_damaged(tmp_path):
 def test_a_picture_at_which_we_fail(command, monkeypatch):
     """Others are looked at, the line has the place of the mistake, and the next run looks at it again."""
     with monkeypatch.context() as planted:
-        reader_of = readers.reader_of
-        planted.setattr(readers, "reader_of", lambda head, path: mistake if head.startswith(png.START) else reader_of(head, path))
-        lines = command("index", "p", "--catalogue", "c", status=2).out.splitlines()
+        reader_of = extraction.reader_of
+        planted.setattr(extraction, "reader_of", lambda head, path: mistake if head.startswith(png.START) else reader_of(head, path))
+        packing = command("index", "p", "--catalogue", "c", status=2).out.splitlines()
         found = [json.loads(it) for it in command("show", "p/b.png", "p/a.jpg", "--json", status=2).out.splitlines()]
         explained = command("explain", "p/b.png", "--debug", status=2)
-    assert [it.partition(":")[0] for it in lines[:-1]] == ["p/b.png"]
-    assert "b.png: InternalError: " in lines[0] and f"TypeError: {FAULT} (exifnorm_pictures/extract/extraction.py, line " in lines[0]
-    assert "1 at which exifnorm-pictures itself failed" in lines[-1]
+    assert [it.partition(":")[0] for it in packing[:-1]] == ["p/b.png"]
+    assert "b.png: InternalError: " in packing[0] and f"TypeError: {FAULT} (exifnorm_pictures/extract/extraction.py, line " in packing[0]
+    assert "1 at which exifnorm-pictures itself failed" in packing[-1]
     assert [it.get("problem") for it in found] == ["InternalError", None]
     assert explained.out.startswith("InternalError: ") and "    return None + 1" in explained.err.splitlines()
     assert command("index", "p", "--catalogue", "c", "--quiet", status=0).out.splitlines() == ["1 no block, 1 unchanged"]

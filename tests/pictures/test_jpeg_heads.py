@@ -9,13 +9,11 @@ import random
 import struct
 
 import pytest
-from hypothesis import given
-from hypothesis import strategies as st
+from hypothesis import given, strategies as st
 from in_memory import Counting
 from jpeg_walk import Walk
 from made_blocks import segment
-from made_files import A, B, EXTENSION_HEAD, K, L, T, U
-from made_files import app1, app1_xmp, app13, extension, jpeg, mpf, resource, turned
+from made_files import EXTENSION_HEAD, A, B, K, L, T, U, app1, app13, app1_xmp, extension, jpeg, mpf, resource, turned
 from studio import SMALL_JPEG
 
 import exifnorm
@@ -25,10 +23,9 @@ from exifnorm_pictures.extract.formats import jpeg as jpeg_
 from exifnorm_pictures.judge import judge
 from exifnorm_pictures.files.session import Session
 from exifnorm_pictures.model import verdicts
-from exifnorm_pictures.model.budgets import Budget
-from exifnorm_pictures.model.found import EXIF, IPTC, Blocks, Broken
-from exifnorm_pictures.model.results import Result
-from exifnorm_pictures.model.sides import side_of
+from exifnorm_pictures.model.found import EXIF, IPTC, Blocks, Broken, Budget
+from exifnorm_pictures.model.texts import Result
+from exifnorm_pictures.model.records import side_of
 from exifnorm_pictures.scan import looking
 from exifnorm_pictures.scan.batches import How
 from exifnorm_pictures.scan.walk import FoundFile

@@ -307,14 +307,14 @@ def test_a_name_of_no_field(words, near, called, folder):
 @pytest.mark.parametrize(
     "limit, octets, name",
     [
-        ("packing.FIELD_BYTES", with_exif(SMALL_JPEG, block([MAKE, MODEL])), "Make"),
-        ("normal_form.FIELDS", jpeg(app13(resource(0x404, iim(b"one") * 2))), "Urgency"),
+        ("fields.packing.FIELD_BYTES", with_exif(SMALL_JPEG, block([MAKE, MODEL])), "Make"),
+        ("judge.judge.FIELDS", jpeg(app13(resource(0x404, iim(b"one") * 2))), "Urgency"),
     ],
     ids=["bytes", "DataSets"],
 )
 def test_of_fields_that_are_too_many_to_be_kept_nothing_is_known(limit, octets, name, folder, called, asked, monkeypatch):
     """Nothing that stands for them is listed as a text, and the picture may fit."""
-    monkeypatch.setattr(f"exifnorm_pictures.fields.{limit}", 1)
+    monkeypatch.setattr(f"exifnorm_pictures.{limit}", 1)
     put(folder / "p", {"a.jpg": octets})
     called("index", "p", "--catalogue", "c", "--quiet")
     assert not any(asked("--columns", name)[0]["a.jpg"].values())

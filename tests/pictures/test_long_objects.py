@@ -15,7 +15,7 @@ from hypothesis import given, strategies as st
 from made_files import png, png_xmp, xmp
 from studio import Studio
 
-from exifnorm_pictures.cli import objects
+from exifnorm_pictures.cli import output
 
 SCALARS = st.none() | st.booleans() | st.integers() | st.floats(allow_nan=False, allow_infinity=False) | st.text()
 VALUES = st.recursive(
@@ -25,8 +25,8 @@ VALUES = st.recursive(
 
 def printed(members, encoded):
     """What is printed of an object if so many characters are encoded together."""
-    with mock.patch.object(objects, "ENCODED_CHARACTERS", encoded), contextlib.redirect_stdout(io.StringIO()) as out:
-        objects.print_object("show", "picture", members)
+    with mock.patch.object(output, "ENCODED_CHARACTERS", encoded), contextlib.redirect_stdout(io.StringIO()) as out:
+        output.print_object("show", "picture", members)
     return out.getvalue()
 
 
@@ -34,26 +34,26 @@ def printed(members, encoded):
 def test_the_same_line(members, encoded):
     expected = json.dumps({"schema": "exifnorm-pictures/show/1", "record": "picture", **members}) + "\n"
     assert printed(members, encoded) == expected
-    assert objects.line_of("show", "picture", members) + "\n" == expected
+    assert output.line_of("show", "picture", members) + "\n" == expected
 
 
 @pytest.mark.parametrize("value", (float("nan"), float("-inf"), b"bytes", {1}), ids=repr)
-@pytest.mark.parametrize("length", (1, objects.ENCODED_CHARACTERS + 1))
+@pytest.mark.parametrize("length", (1, output.ENCODED_CHARACTERS + 1))
 def test_nothing_of_an_object_that_cannot_be_encoded(value, length, capsys):
     with pytest.raises((TypeError, ValueError)):
-        objects.print_object("show", "picture", {"text": "x" * length, "fields": [{"a": "x" * length}, {"a": [value]}]})
+        output.print_object("show", "picture", {"text": "x" * length, "fields": [{"a": "x" * length}, {"a": [value]}]})
     assert capsys.readouterr().out == ""
 
 
 def test_memory():
     """No more than some copies of the longest text, however many there are: before them a part can be in each buffer."""
-    text = "x" * (4 * objects.ENCODED_CHARACTERS)
+    text = "x" * (4 * output.ENCODED_CHARACTERS)
     for members in ({"fields": [{"before": {"plain": text, "exact": text, "value": [text]}} for _ in range(20)]}, {"texts": [text] * 60}):
         with open(os.devnull, "w") as out, contextlib.redirect_stdout(out):
             gc.collect()
             tracemalloc.start()
             try:
-                objects.print_object("compare", "comparison", members)
+                output.print_object("compare", "comparison", members)
                 taken = tracemalloc.get_traced_memory()[1]
             finally:
                 tracemalloc.stop()

@@ -9,8 +9,8 @@ from studio import SMALL_JPEG, put
 from test_repairs import REFUSED
 
 from exifnorm_pictures.files import copying
-from exifnorm_pictures.model import budgets
-from exifnorm_pictures.refusals import mend, repaired_file
+from exifnorm_pictures.model import found
+from exifnorm_pictures.refusals import mend
 
 GOOD, BAD = SMALL_JPEG, with_exif(SMALL_JPEG, REFUSED["unsorted"])
 HOLE = 64 << 20
@@ -76,13 +76,13 @@ def test_a_file_that_becomes_shorter(folder):
 def test_too_long_to_be_mended(called, folder, holes):
     """No remedy is tried, and nothing is written. A plain copy has no limit."""
     (folder / "a.jpg").write_bytes(BAD)
-    os.truncate(folder / "a.jpg", budgets.MENDED_BYTES + 1)
+    os.truncate(folder / "a.jpg", found.MENDED_BYTES + 1)
     status, printed, _ = called("mend", "a.jpg", "b.jpg", "--json")
     assert status == 2 and '"problem": "TooMuch"' in printed and not (folder / "b.jpg").exists()
 
 
 def test_a_kind_that_is_not_repaired_is_not_searched(called, folder, without_programs, monkeypatch):
-    monkeypatch.setattr(repaired_file, "_places", lambda *_: pytest.fail("searched"))
+    monkeypatch.setattr(mend, "_places", lambda *_: pytest.fail("searched"))
     (folder / "a.tif").write_bytes(tiff(page((0x010F, 2, b"Maker\0"), (0x010F, 2, b"Maker\0"))))
     status, printed, _ = called("mend", "a.tif", "b.tif", "--json")
     assert status == 2 and "NeedsExifTool" in printed

@@ -9,7 +9,7 @@ from made_files import app1, app1_xmp, app13, jpeg, xmp
 from studio import SMALL_JPEG, needs, put
 from test_parts import JUMBF, PATH, parts_of
 
-from exifnorm_pictures.extract.formats import parts
+from exifnorm_pictures.extract.formats import streams
 from exifnorm_pictures.refusals import mend
 
 BAD = b"MM\0*\0\0\0\x08\0\x20" + bytes.fromhex("010f 0002 00000004 41626300 0112 0003 00000001 00060000 0128 0003 00000001 00020000")
@@ -28,7 +28,7 @@ def test_mend_keeps_each_other_part(name, folder, called):
     """Or there is no copy. A repair that makes fields readable again is better than another remedy that leaves them out."""
     put(folder, {"a.jpg": BEHIND[name]})
     status, printed, _ = called("mend", "a.jpg", "b.jpg", "--lossless", "--json")
-    rests = [parts.digests(io.BytesIO(it), parts_of(it)) for it in (BEHIND[name], (folder / "b.jpg").read_bytes())]
+    rests = [streams.digests(io.BytesIO(it), parts_of(it)) for it in (BEHIND[name], (folder / "b.jpg").read_bytes())]
     assert (status, json.loads(printed)["step"]) == (0, "repair") and rests[0] == rests[1]
     assert called("show", "b.jpg")[1].count("Make") == 1
 

@@ -23,7 +23,7 @@ from test_list import record
 from exifnorm_pictures.comparison.nightly import news as news_
 from exifnorm_pictures.catalogue import nights
 from exifnorm_pictures.catalogue.store import Catalogue
-from exifnorm_pictures.cli import letter
+from exifnorm_pictures.cli.commands.nightly import letter as letter_of
 from exifnorm_pictures.cli.commands import nightly
 from exifnorm_pictures.comparison.nightly.news import Kind, Named, News
 
@@ -407,7 +407,7 @@ def test_a_letter_fits_a_page(seed):
             named = [Named(rng.choice(names), rng.choice((None, *names))) for _ in range(rng.randrange(1, 4))]
             about = rng.choice(("copyright", "line 3: " + "title like x " * 20, "京" * 90, ""))
             news.append(News(kind, f"{about}{number}", rng.choice((1, 3, 200_000)), named))
-    printed = list(letter.letter("h" * rng.choice((10, 90)), news, ["end"] * rng.choice((0, 4))))
+    printed = list(letter_of("h" * rng.choice((10, 90)), news, ["end"] * rng.choice((0, 4))))
     assert len(printed) <= 30 and max(map(width, printed)) <= 80, printed
     assert all(it.isprintable() for it in printed)
     if len(news) <= 3:

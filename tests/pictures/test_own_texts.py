@@ -9,7 +9,7 @@ from made_files import app1, app1_xmp, exif, jpeg, xmp
 from studio import sql_rows
 from test_captions import data_set, with_record, with_texts
 
-from exifnorm_pictures.fields.own_texts import is_own
+from exifnorm_pictures.fields.labels import is_own
 
 OWN = """
 OLYMPUS DIGITAL CAMERA|GE DIGITAL CAMERA|SANYO DIGITAL CAMERA|KONICA MINOLTA DIGITAL CAMERA|KODAK DIGITAL STILL CAMERA|PENTAX DIGITAL CAMERA

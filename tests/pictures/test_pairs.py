@@ -14,8 +14,33 @@ import zlib
 
 import pytest
 from made_blocks import ASCII, LONG, BLOCKS, block, entry, segment
-from made_files import A, B, K, L, T, T_OTHERWISE, U, iim, title, turned, xmp
-from made_files import app1, app13, app1_xmp, chunk, extension, jpeg, mpf, page, png, png_xmp, profile, resource, tiff, webp
+from made_files import (
+    T_OTHERWISE,
+    A,
+    B,
+    K,
+    L,
+    T,
+    U,
+    app1,
+    app13,
+    app1_xmp,
+    chunk,
+    extension,
+    iim,
+    jpeg,
+    mpf,
+    page,
+    png,
+    png_xmp,
+    profile,
+    resource,
+    tiff,
+    title,
+    turned,
+    webp,
+    xmp,
+)
 from studio import SMALL_JPEG, WithPictures, interpreter_with, needs, put, read, run, tool, write
 
 _ASKED = threading.Lock()  # of one ExifTool in this process
@@ -26,7 +51,7 @@ def sides(path, whole=False):
     from exifnorm_pictures.extract import extraction
     from exifnorm_pictures.judge import judge
     from exifnorm_pictures.model.found import NAMES
-    from exifnorm_pictures.model.sides import side_of
+    from exifnorm_pictures.model.records import side_of
 
     with _ASKED:
         blocks = extraction.blocks_of_file(os.fsencode(path), whole)

@@ -6,9 +6,8 @@ import os
 import shutil
 
 import pytest
-from exifnorm_pictures.comparison.changed.partners import File, partners
-from hypothesis import given
-from hypothesis import strategies as st
+from exifnorm_pictures.comparison.changed.pairs import File, partners
+from hypothesis import given, strategies as st
 from studio import put
 from test_list import picture
 from test_renumbered import MOVES, archive, move

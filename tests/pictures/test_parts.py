@@ -6,8 +6,7 @@ import io
 import json
 
 import pytest
-from hypothesis import given, settings
-from hypothesis import strategies as st
+from hypothesis import given, settings, strategies as st
 from made_blocks import ASCII, LONG, SHORT, segment
 from made_boxes import PICTURE as CODED, XMP_UUID, Item, box, cr3, full, heif, item_exif, jp2, jxl, mime
 from made_files import Placed, app1, app1_xmp, app13, chunk, exif, iim, jpeg, mpf, page, png, png_xmp, profile, resource, tiff, title, webp
@@ -18,12 +17,11 @@ from test_bigtiff import IFD8, LONG8, big, fields
 from test_mutations import mutated
 
 from exifnorm_pictures.comparison import two_pictures
-from exifnorm_pictures.extract import coded_picture, readers
-from exifnorm_pictures.extract.formats import parts
+from exifnorm_pictures.extract import coded_picture, extraction
+from exifnorm_pictures.extract.formats import streams
 from exifnorm_pictures.files.session import Session
-from exifnorm_pictures.model import budgets, rest
-from exifnorm_pictures.model.budgets import Budget, TooMuch
-from exifnorm_pictures.model.found import Broken
+from exifnorm_pictures.model import found, rest
+from exifnorm_pictures.model.found import Broken, Budget, TooMuch
 from exifnorm_pictures.scan.batches import How
 
 A, T, K = exif(b"abc"), title("one"), iim(b"one")
@@ -98,7 +96,7 @@ def parts_of(octets):
     _, found = coded_picture.followed(io.BytesIO(octets), Budget())
     ends = [0, *(it.end for it in found)]
     assert [it.start for it in found] == ends[:-1] and ends[-1] == len(octets) and all(it.start < it.end for it in found), found
-    assert all(bool(it.name) >= (it.kind == parts.REST) for it in found)
+    assert all(bool(it.name) >= (it.kind == streams.REST) for it in found)
     return found
 
 
@@ -114,7 +112,7 @@ def test_the_parts_cover_a_damaged_file(name, chance):
 def seen(octets):
     """All that is compared of a file."""
     try:
-        if (read := readers.reader_of(octets[: readers.HEAD], b"")) is None:
+        if (read := extraction.reader_of(octets[: extraction.HEAD], b"")) is None:
             return "another format"
         blocks = read(io.BytesIO(octets), False)
     except Broken as why:
@@ -127,8 +125,8 @@ def test_no_byte_is_outside(name):
     """A byte that may change unseen is one of the structure."""
     octets = FILES[name]
     known, found = seen(octets), parts_of(octets)
-    assert {it.kind for it in found} >= {parts.PICTURE, parts.STRUCTURE}
-    compared = [at for it in found if it.kind != parts.STRUCTURE for at in range(it.start, it.end)]
+    assert {it.kind for it in found} >= {streams.PICTURE, streams.STRUCTURE}
+    compared = [at for it in found if it.kind != streams.STRUCTURE for at in range(it.start, it.end)]
     assert [at for at in compared if seen(octets[:at] + bytes([octets[at] ^ 1]) + octets[at + 1 :]) == known] == []
 
 
@@ -162,19 +160,23 @@ def test_no_byte_is_outside_of_a_format_whose_pictures_are_not_read(kind, folder
 
 
 NAMED = {
-    "content credentials": (jpeg(app1(A)), jpeg(app1(A), segment(0xEB, JUMBF)), parts.CREDENTIALS),
+    "content credentials": (jpeg(app1(A)), jpeg(app1(A), segment(0xEB, JUMBF)), streams.CREDENTIALS),
     "a clipping path": (jpeg(app13(resource(0x0404, K))), jpeg(app13(resource(0x0404, K) + PATH)), "Photoshop resource 07d0 (path)"),
     "a copyright flag": (
         jpeg(app13(resource(0x0404, K))),
         jpeg(app13(resource(0x0404, K) + FLAG)),
         "Photoshop resource 040a (copyright flag)",
     ),
-    "a comment": (jpeg(app1(A)), jpeg(app1(A), segment(0xFE, b"by Anna")), parts.COMMENT),
-    "a colour profile": (jpeg(app1(A)), jpeg(app1(A), segment(0xE2, b"ICC_PROFILE\0\1\1abc")), parts.PROFILE),
-    "credentials of a PNG": (png(chunk(b"eXIf", A)), png(chunk(b"eXIf", A), chunk(b"caBX", JUMBF)), parts.CREDENTIALS),
+    "a comment": (jpeg(app1(A)), jpeg(app1(A), segment(0xFE, b"by Anna")), streams.COMMENT),
+    "a colour profile": (jpeg(app1(A)), jpeg(app1(A), segment(0xE2, b"ICC_PROFILE\0\1\1abc")), streams.PROFILE),
+    "credentials of a PNG": (png(chunk(b"eXIf", A)), png(chunk(b"eXIf", A), chunk(b"caBX", JUMBF)), streams.CREDENTIALS),
     "a private chunk": (png(chunk(b"eXIf", A)), png(chunk(b"eXIf", A), chunk(b"meTa", b"inventory")), "meTa chunk"),
-    "credentials of a HEIF": (heif(CODED, EXIF), heif(CODED, EXIF, behind=box(b"uuid", C2PA, JUMBF)), parts.CREDENTIALS),
-    "credentials of a JPEG XL": (jxl(box(b"Exif", item_exif(A))), jxl(box(b"Exif", item_exif(A)), box(b"jumb", JUMBF)), parts.CREDENTIALS),
+    "credentials of a HEIF": (heif(CODED, EXIF), heif(CODED, EXIF, behind=box(b"uuid", C2PA, JUMBF)), streams.CREDENTIALS),
+    "credentials of a JPEG XL": (
+        jxl(box(b"Exif", item_exif(A))),
+        jxl(box(b"Exif", item_exif(A)), box(b"jumb", JUMBF)),
+        streams.CREDENTIALS,
+    ),
     "a path of a TIFF": (
         tif((0x8649, 1, resource(0x0404, K))),
         tif((0x8649, 1, resource(0x0404, K) + PATH)),
@@ -230,7 +232,7 @@ def test_without_pixels_a_part_is_known_by_its_length(name, folder, called):
 
 def names_met(octets):
     """The names of the rest of a file whose lengths a reader of metadata meets, or of parts that it names."""
-    blocks = readers.reader_of(octets[: readers.HEAD], b"")(io.BytesIO(octets), False)
+    blocks = extraction.reader_of(octets[: extraction.HEAD], b"")(io.BytesIO(octets), False)
     return {it.partition(" (")[0] for it in (*blocks.rest, *(part.what for part in blocks.not_read))}
 
 
@@ -239,7 +241,7 @@ def names_met(octets):
 )
 def test_a_reader_meets_all_rest_but_what_is_behind_the_pixels(name):
     octets = FILES[name]
-    rest_of = {it.name.partition(" (")[0] for it in parts_of(octets) if it.kind == parts.REST and it.name != parts.TRAILER}
+    rest_of = {it.name.partition(" (")[0] for it in parts_of(octets) if it.kind == streams.REST and it.name != streams.TRAILER}
     assert {it for it in rest_of if it not in names_met(octets)} <= {"MPF picture 2", "MPF picture 3", "zTXt chunk Rawprofile"}
 
 
@@ -266,7 +268,7 @@ def test_parts_that_each_lacks(folder, called):
     put(folder / "p", {"a": jpeg(app1(A), segment(0xFE, b"one")), "b": jpeg(app1(A), segment(0xEB, JUMBF)), "c": jpeg(app1(A))})
     called("index", "p", "--catalogue", "c", "--quiet", "--pixels")
     rows = list(csv.DictReader(called("same", "c", "--csv")[1].splitlines()))
-    assert [it["keep"] for it in rows] == ["1", "", "0"] and parts.CREDENTIALS in rows[1]["note"]
+    assert [it["keep"] for it in rows] == ["1", "", "0"] and streams.CREDENTIALS in rows[1]["note"]
 
 
 @given(*[st.dictionaries(st.sampled_from("abc"), st.sampled_from(("0f", "1e", "")), max_size=3)] * 2)
@@ -319,7 +321,7 @@ def test_what_programs_write_by_themselves_is_named_and_is_no_news(name, folder,
 
 
 def test_a_part_that_is_too_large_is_never_equal(folder, called, monkeypatch):
-    monkeypatch.setattr(budgets, "UNREAD_BYTES", 100)
+    monkeypatch.setattr(found, "UNREAD_BYTES", 100)
     put(folder / "p", {"a": png(chunk(b"eXIf", A), chunk(b"prIv", b"a" * 101)), "b": png(chunk(b"eXIf", A), chunk(b"prIv", b"b" * 101))})
     status, printed, _ = called("compare", "p/a", "p/b")
     assert status == 2 and printed.endswith("Other parts of the files differ: prIv chunk too large to compare.\n")
@@ -333,13 +335,13 @@ def test_a_part_that_is_too_large_is_never_equal(folder, called, monkeypatch):
 def test_a_picture_with_as_many_chunks_as_may_be(name, folder, called, monkeypatch):
     """It is compared as a whole. With one more it isn't read, and nobody says that its format isn't."""
     octets = FILES[name]
-    left = readers.reader_of(octets[: readers.HEAD], b"")(io.BytesIO(octets), False).budget.left
-    count = budgets.LIMITS[budgets.CHUNKS] - left[budgets.CHUNKS]
+    left = extraction.reader_of(octets[: extraction.HEAD], b"")(io.BytesIO(octets), False).budget.left
+    count = found.LIMITS[found.CHUNKS] - left[found.CHUNKS]
     put(folder, {"a": octets, "b": octets.replace(b"video", b"other")})
-    monkeypatch.setitem(budgets.LIMITS, budgets.CHUNKS, count)
+    monkeypatch.setitem(found.LIMITS, found.CHUNKS, count)
     status, printed, _ = called("compare", "a", "b")
     assert status in (1, 2) and printed.endswith("Other parts of the files differ: trailer changed.\n")
-    monkeypatch.setitem(budgets.LIMITS, budgets.CHUNKS, count - 1)
+    monkeypatch.setitem(found.LIMITS, found.CHUNKS, count - 1)
     status, printed, _ = called("compare", "a", "b")
     assert (status, "more than" in printed, "format" in printed) == (1, True, False), printed
 

@@ -13,8 +13,7 @@ from made_files import app1, jpeg, small_tiff
 from studio import SMALL_JPEG, needs, tool
 
 from exifnorm_pictures.fields.field import Field
-from exifnorm_pictures.fields.names import _EXIF, _GPS, _IIM, _INTEROP, _TIFF
-from exifnorm_pictures.fields.plain_names import group_name, plain_name
+from exifnorm_pictures.fields.names import _EXIF, _GPS, _IIM, _INTEROP, _TIFF, group_name, plain_name
 from exifnorm_pictures.fields.plain_texts import comment
 from exifnorm_pictures.fields.plain_values import plain
 from exifnorm_pictures.fields.typed import value_of

@@ -8,13 +8,12 @@ import subprocess
 
 import pytest
 from exifnorm_pictures.cli import main
-from exifnorm_pictures.fields import normal_form
+from exifnorm_pictures.judge import judge, repairs
 from exifnorm_pictures.fields.listing import exact
 from exifnorm_pictures.files.session import Session
-from exifnorm_pictures.judge import repairs
 from exifnorm_pictures.model import steps
 from exifnorm_pictures.model.found import EXIF, FoundBlock
-from exifnorm_pictures.refusals import mend, repaired_file
+from exifnorm_pictures.refusals import mend
 from made_blocks import ASCII, BLOCKS, LONG, MAKE, SHORT, entry, table
 from made_files import app1, chunk, exif, jpeg, page, png, tiff, webp
 from studio import needs, put
@@ -80,7 +79,7 @@ def values_of(folder, blocks):
 
 
 def fields_of(made):
-    return [(it.directory, it.tag, exact(it)) for it in normal_form.fields_of_form(made.form)]
+    return [(it.directory, it.tag, exact(it)) for it in judge.fields_of_form(made.form)]
 
 
 def lossless(block):
@@ -289,12 +288,12 @@ def test_which_repairs_make_pictures_the_same(folder, capsys, monkeypatch):
 @pytest.mark.parametrize("piece", (1, 1000, 1 << 20))
 def test_the_rest_of_a_repaired_file_stays(kind, holder, name, piece, folder, monkeypatch):
     """Also where the block becomes longer, and wherever a piece that is read of the file ends."""
-    monkeypatch.setattr(repaired_file, "_PIECE", piece)
+    monkeypatch.setattr(mend, "_PIECE", piece)
     made = repairs.repaired(REFUSED[name])
     (folder / "a").write_bytes(holder(REFUSED[name]))
     with open(folder / "a", "rb") as picture, open(folder / "b", "wb") as copy:
-        changes, done = repaired_file.changes(picture, kind, [FoundBlock(EXIF, REFUSED[name], "Exif", "")])
-        repaired_file.write(picture, changes, copy)
+        changes, done = mend.changes(picture, kind, [FoundBlock(EXIF, REFUSED[name], "Exif", "")])
+        mend.write(picture, changes, copy)
     assert (folder / "b").read_bytes() == holder(made.block) and done == made.steps
 
 
@@ -302,8 +301,8 @@ def test_two_blocks_of_a_file_are_replaced(folder):
     blocks = [REFUSED["unsorted"], REFUSED["all"]]
     (folder / "a").write_bytes(jpeg(*map(app1, blocks)))
     with open(folder / "a", "rb") as picture, open(folder / "b", "wb") as copy:
-        changes, _ = repaired_file.changes(picture, "JPEG", [FoundBlock(EXIF, it, "Exif", "") for it in reversed(blocks)])
-        repaired_file.write(picture, changes, copy)
+        changes, _ = mend.changes(picture, "JPEG", [FoundBlock(EXIF, it, "Exif", "") for it in reversed(blocks)])
+        mend.write(picture, changes, copy)
     assert (folder / "b").read_bytes() == jpeg(*(app1(repairs.repaired(it).block) for it in blocks))
 
 
@@ -314,7 +313,7 @@ def test_a_block_that_is_not_found_once_is_not_replaced(folder):
     for kind, octets in (("JPEG", jpeg(app1(block), app1(block))), ("JPEG", far), ("JPEG", jpeg()), ("TIFF", jpeg(app1(block)))):
         (folder / "a").write_bytes(octets)
         with open(folder / "a", "rb") as picture:
-            assert repaired_file.changes(picture, kind, found) is None
+            assert mend.changes(picture, kind, found) is None
 
 
 def test_mend_without_exiftool(folder, capsys, monkeypatch):

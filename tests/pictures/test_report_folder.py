@@ -19,7 +19,7 @@ from made_blocks import BLOCKS, MAKE, MODEL, block, with_exif
 from studio import SMALL_JPEG, put
 from test_report import Text
 
-from exifnorm_pictures.comparison.changed.marking import Marker
+from exifnorm_pictures.comparison.wording import Marker
 from exifnorm_pictures.files import atomic, folders
 
 NAMES = [b"a b.jpg", b"per%cent?#.jpg", b"latin\xff.jpg", b"line\nend.jpg", b"<b onclick=alert(1)>&amp;.jpg", b"quote'\".jpg", b"-dash.jpg"]

@@ -8,7 +8,7 @@ import pytest
 from made_blocks import MAKE, block, with_exif
 from studio import SMALL_JPEG, put
 
-from exifnorm_pictures.files import rights
+from exifnorm_pictures.files import atomic
 
 pytestmark = pytest.mark.skipif(os.geteuid() != 0, reason="only root can be another user for a moment")
 
@@ -56,7 +56,7 @@ def test_a_copy_of_another_group_allows_its_members_no_more_than_all(folder, mod
     picture = made(folder / "a.jpg", PICTURE, mode)
     monkeypatch.setattr(os, "fchown", lambda *_: (_ for _ in ()).throw(PermissionError()))
     with open(folder / "b.jpg", "wb") as copy:
-        rights.give(copy.fileno(), rights.rights_of(picture))
+        atomic.give(copy.fileno(), atomic.rights_of(picture))
     os.chown(folder / "b.jpg", -1, 4102)  # the group of the user "another"
     assert {it for it in allowed(folder / "b.jpg") if it[0] == "another"} <= allowed(picture)
 

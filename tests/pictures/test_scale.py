@@ -225,7 +225,6 @@ class Scale(WithPictures):
             "catalogue.kept_texts",
             "comparison.changed.states",
             "comparison.same.groups",
-            "extract.readers",
             "refusals.explain",
             "refusals.mend",
             "refusals.repairs",

@@ -6,7 +6,7 @@ import pytest
 from attacks import sharing
 from made_files import iim, title, xmp
 
-from exifnorm_pictures.comparison.changed import block_pairs
+from exifnorm_pictures.comparison.changed import states
 from exifnorm_pictures.judge import judge
 
 COMMANDS = (
@@ -40,7 +40,7 @@ def test_a_packet_of_many_pages(words, called, folder, monkeypatch):
 @pytest.mark.parametrize("most, is_different", ((1000, False), (8, True)))
 def test_pages_that_are_not_compared_are_not_called_the_same(most, is_different, called, folder, monkeypatch):
     """All pages differ in what doesn't count. If those after a limit weren't compared by field, nobody knows that of them."""
-    monkeypatch.setattr(block_pairs, "COMPARED_FIELDS", most)
+    monkeypatch.setattr(states, "COMPARED_FIELDS", most)
     for name, mark in (("a.tif", b"a"), ("b.tif", b"b")):
         (folder / name).write_bytes(sharing(iim(mark) + iim(b"pot"), 9, 0x83BB, 1))
     status, printed, _ = called("compare", "a.tif", "b.tif", "--ignore", "keywords", "--json")

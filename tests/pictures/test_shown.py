@@ -5,14 +5,14 @@ import json
 import pytest
 from made_files import app1_xmp, jpeg, xmp
 
-from exifnorm_pictures.fields import shown
+from exifnorm_pictures.fields import listing
 
 PACKETS = [xmp("".join(f"<dc:a{it}>{block}{it}</dc:a{it}>" for it in range(3))) for block in "abc"]  # three blocks of three fields
 
 
 @pytest.mark.parametrize("most", range(1, 11))
 def test_the_first_fields_of_all_blocks(most, called, monkeypatch):
-    monkeypatch.setattr(shown, "SHOWN_FIELDS", most)
+    monkeypatch.setattr(listing, "SHOWN_FIELDS", most)
     picture = jpeg(*map(app1_xmp, PACKETS))
     values = [f"{block}{it}" for block in "abc" for it in range(3)][:most]
     blocks = json.loads(called("show", "a.jpg", "--json", a=picture)[1])["blocks"]
@@ -27,7 +27,7 @@ def test_the_first_fields_of_all_blocks(most, called, monkeypatch):
 
 
 def test_the_characters_of_their_values(called, monkeypatch):
-    monkeypatch.setattr(shown, "SHOWN_CHARACTERS", 2000)
+    monkeypatch.setattr(listing, "SHOWN_CHARACTERS", 2000)
     picture = jpeg(*(app1_xmp(xmp(f"<dc:a>{'x' * 700}</dc:a>")) for _ in range(5)))
     blocks = json.loads(called("show", "a.jpg", "--json", a=picture)[1])["blocks"]
     assert [len(block["fields"]) for block in blocks] == [1, 1, 0, 0, 0]

@@ -12,11 +12,11 @@ import pytest
 from exact_fields import field
 from studio import SMALL_JPEG, needs, tool
 
-from exifnorm_pictures.cli import summary as page
+from exifnorm_pictures.cli import changed_tables as page
 from exifnorm_pictures.comparison.changed import summary
 from exifnorm_pictures.comparison.changed.states import Compared
-from exifnorm_pictures.comparison.differing import differences
-from exifnorm_pictures.model.results import Result
+from exifnorm_pictures.comparison.wording import differences
+from exifnorm_pictures.model.texts import Result
 
 
 @pytest.fixture

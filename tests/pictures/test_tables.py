@@ -16,10 +16,10 @@ from exifnorm_pictures.catalogue import store
 from exifnorm_pictures.catalogue.store import VERSION, Catalogue, NoCatalogue
 from exifnorm_pictures.comparison.changed import states as changed, pairs as pairing
 from exifnorm_pictures.comparison.same import groups
-from exifnorm_pictures.comparison.differing import bare
-from exifnorm_pictures.comparison.same.group_sentence import sentence_of
+from exifnorm_pictures.comparison.wording import bare
+from exifnorm_pictures.comparison.same.group import sentence_of
 from exifnorm_pictures.comparison.same.groups import Groups
-from exifnorm_pictures.fields import normal_form
+from exifnorm_pictures.judge import judge
 from exifnorm_pictures.fields.field import Field
 from exifnorm_pictures.fields.listing import numbers_text
 from exifnorm_pictures.fields.packing import packed
@@ -552,7 +552,7 @@ def _listed(listing):
 def _fields(form):
     return [
         (*it._identity[:4], it.content.hex() if isinstance(it.content, bytes) else numbers_text(it.type, it.content))
-        for it in normal_form.fields_of_form(form)
+        for it in judge.fields_of_form(form)
     ]
 
 

@@ -12,7 +12,7 @@ import termios
 import pytest
 from studio import SMALL_JPEG, TOP, Studio, needs, run, write
 
-from exifnorm_pictures.cli.columns import folded, width
+from exifnorm_pictures.cli.output import folded, width
 
 COMMANDS = (
     "index p --catalogue new --quiet",

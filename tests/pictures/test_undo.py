@@ -7,15 +7,14 @@ import subprocess
 
 import made_museum
 import pytest
-from exifnorm_pictures.comparison.differing import FieldDifference
+from exifnorm_pictures.comparison.wording import FieldDifference
 from exifnorm_pictures.comparison.changed.edits import BY_THEMSELVES
 from exifnorm_pictures.comparison.changed.undo import arguments
 from exifnorm_pictures.fields.field import Field
 from exifnorm_pictures.fields.labels import label_of_fields
 from exifnorm_pictures.model.texts import escaped
 from exifnorm_pictures.model.xmp_values import Array, Literal
-from hypothesis import given
-from hypothesis import strategies as st
+from hypothesis import given, strategies as st
 from made_files import app1_xmp, jpeg, xmp
 from made_museum import languages
 from studio import TOP, needs, put

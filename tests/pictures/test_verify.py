@@ -18,7 +18,8 @@ from studio import SMALL_JPEG, Studio, needs, put, run, sql_rows
 
 from exifnorm_pictures.catalogue import store
 from exifnorm_pictures.files import opening
-from exifnorm_pictures.scan import hashing, index as scan_index, looking
+from exifnorm_pictures.scan import index as scan_index, looking
+from exifnorm_pictures.comparison import verified as verified_
 
 PICTURE, CAPTIONED = jpeg(app1(A)), jpeg(app1(B))
 OTHER = jpeg(app1(A), base=SMALL_JPEG.replace(b"\xff\xdb\0\x43\0", b"\xff\xdb\0\x43\1", 1))
@@ -357,17 +358,17 @@ def test_bytes_of_a_file_as_it_was(folder, called):
 def test_a_run_that_was_stopped(archive, called, verified, reads, monkeypatch):
     """What it has read isn't read again, unless it was written to since; the state goes with the run that ends."""
     monkeypatch.setattr(scan_index, "BATCH", 1)
-    digest = hashing.digest
+    digest = verified_.digest
 
     def stops(path, *more):
         if path.endswith(b"c.gif"):
             raise KeyboardInterrupt
         return digest(path, *more)
 
-    monkeypatch.setattr(hashing, "digest", stops)
+    monkeypatch.setattr(verified_, "digest", stops)
     status, _, messages = called("verify", "c", "--state", "s", "--jobs", "1")
     assert status == 130 and "goes on from there" in messages and os.listdir("s") == ["verified.catalogue"]
-    monkeypatch.setattr(hashing, "digest", digest)
+    monkeypatch.setattr(verified_, "digest", digest)
     written(archive / "b.jpg", OTHER)
     reads.clear()
     status, states, (summary,) = verified("--state", "s")

@@ -11,7 +11,7 @@ from xml.etree import ElementTree
 import by_rdflib
 from exifnorm_pictures.fields import xmp_properties as properties
 from exifnorm_pictures.xmp import CAUSES, reader, tree
-from exifnorm_pictures.xmp.elements import rdf_of
+from exifnorm_pictures.xmp.reader import rdf_of
 from exifnorm_pictures.xmp.packets import Unreadable
 from hypothesis import assume, given, settings
 from made_files import SPACES, title, xmp

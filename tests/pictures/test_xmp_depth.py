@@ -8,9 +8,8 @@ import by_rdflib
 import exifnorm
 import pytest
 from exifnorm_pictures import xmp as reading
-from exifnorm_pictures.xmp.elements import rdf_of
-from hypothesis import given, settings
-from hypothesis import strategies as st
+from exifnorm_pictures.xmp.reader import rdf_of
+from hypothesis import given, settings, strategies as st
 from made_files import SPACES
 from studio import needs
 from test_xmp_normal import check, form_of

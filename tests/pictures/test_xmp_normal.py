@@ -12,11 +12,10 @@ import by_rdflib
 import exifnorm
 from exifnorm_pictures import xmp as reading
 from exifnorm_pictures.xmp import reader
-from exifnorm_pictures.xmp.elements import rdf_of
+from exifnorm_pictures.xmp.reader import rdf_of
 from exifnorm_pictures.xmp.reading import form_of as form_by_library, of_form
 from exifnorm_pictures.xmp.tree import Node, Uri
-from hypothesis import given, settings
-from hypothesis import strategies as st
+from hypothesis import given, settings, strategies as st
 from made_files import xmp
 from packets import PACKET, packets
 from studio import needs

@@ -12,7 +12,7 @@ import exifnorm
 import pytest
 from allocations import every, problems_without_memory
 from cases import Case
-from exifnorm_pictures.fields.plain_names import group_name
+from exifnorm_pictures.fields.names import group_name
 from exifnorm_pictures.model import xmp_names
 from exifnorm_pictures.model.xmp_names import short_name
 from hypothesis import given, settings

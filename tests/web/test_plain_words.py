@@ -13,7 +13,7 @@ from exifnorm_pictures import xmp
 from exifnorm_pictures.comparison.wording import told_apart
 from exifnorm_pictures.fields import names, plain_values
 from exifnorm_pictures.fields.listing import shortened
-from exifnorm_pictures.fields.normal_form import fields_of_form
+from exifnorm_pictures.judge.judge import fields_of_form
 from exifnorm_pictures.fields.xmp_properties import fields_of_statements
 from exifnorm_pictures.model.xmp_names import _SPACES
 from exifnorm_pictures.model.xmp_values import texts_in

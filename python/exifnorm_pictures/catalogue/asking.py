@@ -13,12 +13,6 @@ from itertools import groupby, repeat
 from operator import and_, itemgetter, or_
 from typing import Callable, Iterable, Iterator, NamedTuple, Optional, Sequence
 
-from ..fields.folding import bare, compose, folded
-from ..fields.forms import clock_of, number_of, words_of
-from ..fields.choosing import kinds_of
-from ..fields.dates import EXPECTED, asked_date, is_asked_impossible, is_impossible, plain_date
-from ..fields.labels import DAMAGE, DATED, POSITION, UNCLEAR_POSITION, fields_by_label, is_in_maker_notes
-from ..fields.listing import LONGEST_TEXT
 from ..fields.questions import (
     ORDERED,
     All,
@@ -28,21 +22,26 @@ from ..fields.questions import (
     Question,
     With,
     WrongQuestion,
+    bare,
+    compose,
     conditions_of,
     fields_in,
+    folded,
     has_order,
     is_field,
     labels_of,
 )
+from ..fields.forms import clock_of, number_of, words_of
+from ..fields.choosing import kinds_of
+from ..fields.dates import EXPECTED, asked_date, is_asked_impossible, is_impossible, plain_date
+from ..fields.labels import DAMAGE, DATED, POSITION, UNCLEAR_POSITION, fields_by_label, is_in_maker_notes
+from ..fields.listing import LONGEST_TEXT
+from ..model.records import has, has_short
 from ..model.columns import Damaged
 from ..model.found import EXIF, IPTC, XMP
 from ..model.numbers import Numbers
-from ..model.problems import NOT_THERE, Problem
-from ..model.records import has, has_short
-from ..model.texts import unescaped
-from ..model.words import Word
-from .field_texts import DATE as FIELD_DATE, NUMBER, OTHER, SHOWN, add_fields
-from .kept_texts import Report, make_ready, say_nothing
+from ..model.texts import NOT_THERE, Problem, Word, unescaped
+from .kept_texts import DATE as FIELD_DATE, NUMBER, OTHER, SHOWN, Report, add_fields, make_ready, say_nothing
 from .store import HEAD, NOT_WHOLE, Catalogue, root_of_row
 
 _WHOLE = "ifnull(folded, lower(text))"  # a long text as it is compared; of a short one it is the head
@@ -568,8 +567,7 @@ class Answer:
 
     def paths(self) -> Iterator[list[bytes]]:
         """The paths of the pictures that fit, in their order, some at once."""
-        for rows in self._rows():
-            yield [path for _, path in rows]
+        yield from ([path for _, path in rows] for rows in self._rows())
 
     def _rows(self) -> Iterator[list[tuple[int, bytes]]]:
         """The number and the path of each picture that fits, by path, some at once.

@@ -9,17 +9,15 @@ from itertools import groupby
 from typing import Iterator, NamedTuple, Sequence
 
 from ..fields.choosing import stands_for
-from ..fields.folding import compose
+from ..fields.questions import Condition, compose, fields_in, is_field
 from ..fields.labels import DAMAGE, DATED, POSITION, UNCLEAR_POSITION
-from ..fields.plain_names import group_name
-from ..fields.questions import Condition, fields_in, is_field
+from ..fields.names import group_name
 from ..fields.rules import AFTER, AGREE, BEFORE, EQUAL, LENGTH, LIKE, NEEDS, NEVER, VALUES, Rule
 from ..model.records import has, has_short
 from ..model.texts import Members, pictures_in_words, whole_path
 from .asking import IN_SCOPE, add_functions, forms_of_word, has_text, parts_of, pattern_of, put_wanted, unread
 from .conflicts import conflicts
-from .field_texts import DATE as FIELD_DATE, EACH, SHOWN, add_fields, ambiguous_in
-from .kept_texts import Report, make_ready, say_nothing
+from .kept_texts import DATE as FIELD_DATE, EACH, SHOWN, Report, add_fields, ambiguous_in, make_ready, say_nothing
 from .store import Catalogue, root_of_row
 from .texts import texts_of
 

@@ -14,7 +14,7 @@ from exifnorm._words import documented
 from ..fields.labels import DATE, LABELS, POSITION, Caption, Label
 from ..fields.places import Located, is_same_place, metres_apart
 from ..model.found import EXIF, IPTC, NAMES, STANDARDS, XMP
-from ..model.words import Word
+from ..model.texts import Word, grouped
 
 
 class ConflictKind(Word):
@@ -83,10 +83,7 @@ class _How(NamedTuple):
 
 def conflicts(texts: Sequence[Caption], positions: Positions = (None, None)) -> list[Conflict]:
     """The labels with texts in two standards at least, and the position if Exif and XMP have one. An XMP sidecar counts beside them."""
-    by_label: dict[str, list[Caption]] = {}
-    for text in texts:
-        if text.is_compared:
-            by_label.setdefault(text.label, []).append(text)
+    by_label = grouped((it.label, it) for it in texts if it.is_compared)
     several = {word: ours for word, ours in by_label.items() if len(set(map(_source, ours))) > 1}
     due = [(label, several[label.word]) for label in LABELS if label.word in several]
     of_labels = [_conflict(label, ours) for label, ours in due if not all(it.is_empty for it in ours)]

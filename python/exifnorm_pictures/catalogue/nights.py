@@ -24,9 +24,8 @@ import time
 from typing import IO
 
 from ..files import atomic
-from ..model.errors import Failure
+from ..model.texts import Failure, shown_path
 from ..model.records import Stamp
-from ..model.texts import shown_path
 from .store import BESIDE, VERSION, Catalogue, Earlier, earlier_release, head_is_ours, head_of, is_left_open
 
 _HEAD = "The lock of exifnorm-pictures nightly, and what its catalogue of tonight was made from:\n"

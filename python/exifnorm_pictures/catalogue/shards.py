@@ -14,9 +14,8 @@ import os
 import tempfile
 from typing import Callable, Container, Iterator, NamedTuple, Sequence
 
-from ..files import atomic, rights
-from ..model.errors import Failure, WrongUse
-from ..model.texts import in_words, shown_path
+from ..files import atomic
+from ..model.texts import Failure, WrongUse, in_words, shown_path
 from .store import (
     Catalogue,
     LIST,
@@ -49,7 +48,7 @@ def merge(name: str, others: Sequence[str], before: Before | None = None) -> int
     Each catalogue is one transaction: a merge that is stopped leaves whole catalogues in it.
     """
     _check(name, others)  # before it is made: a mistyped name would leave a catalogue of no pictures
-    rights.make(name, others)
+    atomic.make(name, others)
     with Catalogue(name, make=True) as all_:
         for number, source in enumerate(others):
             _add(all_, source, others[:number], before)

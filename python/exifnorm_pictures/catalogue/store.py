@@ -19,18 +19,25 @@ from itertools import chain, groupby
 from operator import itemgetter
 from typing import Any, Callable, Iterable, Iterator, NamedTuple, Optional, Sequence, Type, TypeVar, overload
 
-from ..fields.block_fields import fields_of, with_kept_fields
+from ..fields.packing import fields_of, joined, parted, with_kept_fields
 from ..fields.field import Field
-from ..fields.lines import joined, parted
 from ..files import mounts, opening as files, signals
-from ..model.budgets import ROW_BYTES, ROW_NUMBER, SQL_STEPS
+from ..model.found import NAMES, OWN, ROW_BYTES, ROW_NUMBER, SQL_STEPS, NotRead
+from ..model.records import (
+    BLOCKS,
+    PICTURES,
+    BlockRecord,
+    PictureRecord,
+    Stamp,
+    Status,
+    block_of_row,
+    has_short,
+    not_read_of_row,
+    picture_of_row,
+)
 from ..model.columns import Damaged
-from ..model.errors import Failure
-from ..model.found import NAMES, OWN, NotRead
+from ..model.texts import GONE, NO_BYTES, Failure
 from ..model.numbers import Numbers
-from ..model.problems import GONE, NO_BYTES
-from ..model.records import BLOCKS, PICTURES, BlockRecord, PictureRecord, Stamp, block_of_row, has_short, not_read_of_row, picture_of_row
-from ..model.sides import Status
 
 APPLICATION = 0x45584E50  # 'EXNP', which distinguishes a catalogue from other SQLite files
 VERSION = 12

@@ -5,7 +5,7 @@ from __future__ import annotations
 from typing import NamedTuple, Sequence
 
 from ..fields.labels import LABEL_WORDS, LABELLED, Caption, camera_of, not_kept, of_labelled, with_own
-from ..fields.block_fields import rests_of
+from ..fields.packing import rests_of
 from ..fields.character_sets import in_found_set
 from ..fields.field import Field
 from ..fields.listing import rest_of

@@ -10,8 +10,8 @@ from ..fields.field import Field
 from ..fields.packing import unpacked
 from ..model.found import other_name
 from ..model.texts import escaped, reason
-from .options import Fields
-from .word_files import text_of, words_in
+from .output import Fields
+from .names import text_of, words_in
 
 
 def choice_of(fields: Fields) -> Choice:

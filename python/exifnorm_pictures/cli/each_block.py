@@ -6,17 +6,13 @@ import os
 from typing import Callable, Iterator
 
 from ..extract import coded_picture
-from ..extract.named import blocks_of_named
+from ..extract.extraction import blocks_of_named
 from ..files.opening import held
-from ..model.budgets import Budget
-from ..model.problems import Problem
-from ..model.texts import escaped, shown_path
+from ..model.found import Budget
+from ..model.texts import Problem, escaped, shown_path
 from ..picture import Block, Picture
-from .exit_codes import SUCCESS, UNKNOWN
+from .output import SUCCESS, UNKNOWN, Files, Run, lacks_some, no_block, note_sidecar, picture_cut, print_lines, unread
 from .names import each_name, is_catalogue, is_list
-from .not_read import lacks_some, no_block, picture_cut, unread
-from .options import Files, Run
-from .output import note_sidecar, print_lines
 
 
 Describe = Callable[[Picture, Block], list[str]]

@@ -3,34 +3,46 @@
 from __future__ import annotations
 
 import os
-from typing import Iterator, Sequence, TYPE_CHECKING
+from typing import TYPE_CHECKING, Iterator, Sequence
 
 from ..catalogue.conflicts import Conflict, best, conflicts, own_texts
 from ..comparison.wording import tell_apart
-from ..extract.named import blocks_of_named
-from ..fields.labels import Caption, LABEL_WORDS, POSITION
+from ..extract.extraction import blocks_of_named
+from ..fields.labels import LABEL_WORDS, POSITION, Caption
+from ..fields.listing import Shown
 from ..fields.places import Place
-from ..fields.shown import Shown
 from ..files import opening
 from ..model import steps
 from ..model.found import Blocks, NotRead, cut
-from ..model.problems import NOT_THERE, Problem
-from ..model.sides import REACHED
-from ..model.texts import Members, escaped, shown_path
+from ..model.records import REACHED
+from ..model.texts import NOT_THERE, Members, Problem, escaped, shown_path
 from ..picture import Picture
 from ..scan.walk import Unlisted, below
-from .columns import width
-from .exit_codes import SUCCESS, UNKNOWN
 from .names import each_name, is_catalogue, is_list, is_ours
-from .not_read import damage_members, lacks_some, no_block, not_found, picture_cut, unread
-from .objects import picture_object, print_object
-from .options import Files, Output, Run
-from .output import note_sidecar, print_lines, table_of
+from .output import (
+    SUCCESS,
+    UNKNOWN,
+    Cell,
+    Files,
+    Output,
+    Run,
+    damage_members,
+    lacks_some,
+    no_block,
+    not_found,
+    note_sidecar,
+    picture_cut,
+    picture_object,
+    print_lines,
+    print_object,
+    table_of,
+    unread,
+    width,
+)
 from .parser import refuse
 
 if TYPE_CHECKING:
     from ..catalogue.store import Catalogue
-    from .tables import Cell
 
 
 def pictures(files: Files, run: Run) -> Iterator[Picture]:

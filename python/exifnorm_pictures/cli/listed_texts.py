@@ -8,10 +8,10 @@ from ..fields.labels import LABEL_WORDS, POSITION
 from ..fields.places import place_of
 from ..fields.questions import given_label
 from ..model.texts import escaped
+from .output import Cell
 
 if TYPE_CHECKING:
     from ..catalogue.asking import Texts
-    from .tables import Cell
 
 
 def labels_in(words: str) -> list[str]:

@@ -6,14 +6,14 @@ import os
 import shlex
 import sys
 from itertools import chain, islice
-from typing import TYPE_CHECKING, Iterator, Sequence
+from typing import TYPE_CHECKING, BinaryIO, Iterator, Sequence
 
+from ..fields.tokens import MOST_WORDS
+from ..files import opening
 from ..files.opening import reading
-from ..model.errors import WrongUse
-from ..model.texts import escaped, shown_path
+from ..model.texts import WrongUse, escaped, shown_path
 from ..scan.walk import BadList, names_in_list
-from .options import Files
-from .output import say_notes
+from .output import Files, say_notes
 from .parser import refuse
 
 if TYPE_CHECKING:
@@ -152,3 +152,38 @@ def _line(command: str, names: Sequence[str]) -> str:
 def _absent(names: Sequence[str]) -> list[str]:
     """Those of several names that nothing has: one may be meant as that of a new catalogue."""
     return [name for name in names if len(names) > 1 and not os.path.lexists(name)]
+
+
+# Files that somebody writes for rules and questions: the rules, and words.
+
+_LONGEST = 10_000_000  # bytes
+
+
+def text_of(file: BinaryIO, name: str) -> str:
+    """The text that a file has. Raises `OSError`, and `WrongUse` if it is no text."""
+    octets = file.read(_LONGEST + 1)
+    if len(octets) > _LONGEST:
+        raise WrongUse(f"{escaped(name)} is longer than {_LONGEST:,} bytes")
+    try:
+        return octets.decode("utf-8-sig")
+    except UnicodeDecodeError:
+        raise WrongUse(f"{escaped(name)} is no text in UTF-8") from None
+
+
+def words_in(text: str, name: str) -> list[str]:
+    """The words of a file, one each line; lines that begin with # are comments."""
+    if text.count("\n") > MOST_WORDS:
+        raise WrongUse(f"{escaped(name)} has more than {MOST_WORDS:,} lines")
+    lines = (line.strip() for line in text.splitlines())
+    return [line for line in lines if line and not line.startswith("#")]
+
+
+def text_of_file(name: str) -> str:
+    """The text of a regular file: rules and questions may be a stranger's, and name any file."""
+    with opening.reading(os.fsencode(name)) as file:
+        return text_of(file, name)
+
+
+def words_of_file(name: str) -> list[str]:
+    """The words of a regular file."""
+    return words_in(text_of_file(name), name)

@@ -1,27 +1,228 @@
-"""Results as lines for people or as JSON objects."""
+"""What a command gets, the options of its line in groups, and what it gives: a status, and lines for people or JSON objects."""
 
 from __future__ import annotations
 
+import argparse
 import contextlib
+import functools
+import json
 import os
+import re
 import shutil
 import sys
+import unicodedata
 from collections import Counter
 from datetime import datetime, timezone
 from itertools import islice
-from typing import TYPE_CHECKING, Iterable, Iterator, Sequence
+from typing import TYPE_CHECKING, Any, Iterable, Iterator, NamedTuple, Sequence, TypeVar, Union
 
 from ..files import signals
-from ..model.found import cut, damage
-from ..model.problems import COUNTED, Problem
+from ..files.session import Session
+from ..model.found import CUT, ENCODED_CHARACTERS, NAMES, PROGRAM_SECONDS, cut, damage, each_kind
 from ..model.records import AS_BEFORE, BlockRecord, PictureRecord
 from ..model.steps import loses, words
-from ..model.texts import near, safe, shown_path
-from .columns import NARROWEST, folded
+from ..model.texts import COUNTED, Members, Problem, Result, near, path_members, safe, safe_lines, shown_path
+from ..model.verdicts import with_verb
 
 if TYPE_CHECKING:
-    from .options import Output
-    from .tables import Table
+    from ..picture import Picture
+    from .sheets import Sheet
+
+# The options of a command: a record for each group of them, made once from its line, which nobody changes.
+
+# The exit statuses of the command, as `--help` and the manual page list them. If several apply, the greatest counts.
+
+SUCCESS = 0  # done, or the same
+DIFFERENCE = 1  # something differs, also after repair, is missing or was moved; a mended copy differs in a printed value
+UNKNOWN = 2  # it can't be decided wholly: a block is refused, a picture or a part was not read, only a MakerNote moved; no remedy worked
+USAGE = 3  # the arguments are refused
+FAILURE = 4  # the command itself failed: the catalogue, a stream, the disk, the memory
+STOPPED = 130  # by the keyboard
+
+
+def status_of_results(results: Iterable[Result]) -> int:
+    """The greatest status of some results."""
+    statuses = {UNKNOWN if it.is_open else DIFFERENCE if it.has_changed else SUCCESS for it in results}
+    return max(statuses, default=SUCCESS)
+
+
+class Least:
+    """The least status of a run: what it finds on the way can raise it."""
+
+    status = SUCCESS
+
+
+class Files(NamedTuple):
+    """The catalogue and the names that a command gets."""
+
+    command: str
+    source: str | None = None  # the first name, which may be a catalogue
+    catalogue: str | None = None  # of --catalogue, which index and nightly have
+    names: Sequence[str] = ()
+    files_from: str | None = None
+    null: bool = False  # the names of that list end with NUL
+
+
+class Fields(NamedTuple):
+    """The fields that count, or the labels."""
+
+    ignore: Sequence[str] = ()
+    only: Sequence[str] = ()
+    equal_numbers: bool = False
+
+
+class Output(NamedTuple):
+    """The form of the answer."""
+
+    json: bool = False
+    csv: bool = False  # also of --xlsx, with a sheet
+    sheet: Sheet | None = None
+    geojson: bool = False
+    exact: bool = False
+    html: str | None = None
+
+
+class Run(NamedTuple):
+    """The run, and how it reads pictures."""
+
+    session: Session
+    least: Least
+    jobs: int = 0
+    quiet: bool = False
+    again: bool = False
+    exclude: Sequence[str] = ()
+    scheduler: str | None = None
+    whole: bool = False
+    pixels: bool = False
+    sidecars: bool = False
+    maker_notes: bool = False
+    limit: float = PROGRAM_SECONDS
+
+
+Group = TypeVar("Group", Files, Fields, Output, Run)
+
+
+def groups_of(arguments: argparse.Namespace) -> tuple[Files, Run, Output]:
+    """What most commands need."""
+    return group_of(Files, arguments), group_of(Run, arguments), group_of(Output, arguments)
+
+
+def group_of(kind: type[Group], arguments: argparse.Namespace) -> Group:
+    """A group of the options of a command. Those that the command lacks are as if they weren't given.
+
+    >>> group_of(Output, argparse.Namespace(json=True, columns="title"))
+    Output(json=True, csv=False, sheet=None, geojson=False, exact=False, html=None)
+    """
+    return kind(**{name: value for name, value in vars(arguments).items() if name in kind._fields})
+
+
+# A table of three columns for people: names, and two values side by side.
+
+LONGEST_NAME, NARROWEST, WIDEST = 34, 20, 60  # in columns of a terminal
+
+
+def width(text: str) -> int:
+    """The columns that a text takes on a terminal.
+
+    >>> width("Zürich"), width("京都"), width("e\\u0301")
+    (6, 4, 1)
+    """
+    return len(text) if text.isascii() else sum(map(_width_of, text))
+
+
+@functools.lru_cache(maxsize=4096)
+def _width_of(character: str) -> int:
+    if unicodedata.combining(character):
+        return 0
+    if unicodedata.east_asian_width(character) in "WF":
+        return 2
+    return 1
+
+
+def columns(rows: Sequence[Sequence[str]], screen: int) -> Iterator[str]:
+    """The lines of a table. The first row has the heads; a row of one cell is a heading, and the text of one of two cells isn't cut.
+
+    >>> print("\\n".join(columns([("", "a.jpg", "b.jpg"), ("Artist", "(none)", "Otto")], 60)))
+            a.jpg   b.jpg
+    Artist  (none)  Otto
+    """
+    names = min(LONGEST_NAME, max(width(it[0]) for it in rows if len(it) > 1))
+    column = max(NARROWEST, min(WIDEST, (screen - names - 4) // 2))
+    first = min(column, max([width(it[1]) for it in rows if len(it) > 2], default=0))
+    for row in rows:
+        if len(row) == 1:
+            yield row[0]
+            continue
+        cells = [
+            wrapped(row[0], names),
+            wrapped(row[1], first if len(row) > 2 else 2 * column),
+            wrapped(row[2], column) if len(row) > 2 else [""],
+        ]
+        for at in range(max(map(len, cells))):
+            name, before, after = (cell[at] if at < len(cell) else "" for cell in cells)
+            yield f"{_padded(name, names)}  {_padded(before, first)}  {after}".rstrip()
+
+
+def _padded(text: str, wanted: int) -> str:
+    return text + " " * (wanted - width(text))
+
+
+def wrapped(text: str, wanted: int) -> list[str]:
+    """The text in lines of so many columns, broken at blanks where it can be.
+
+    >>> wrapped("a vase of 1880", 8), wrapped("abcdefghij", 4)
+    (['a vase', 'of 1880'], ['abcd', 'efgh', 'ij'])
+    """
+    lines: list[str] = []
+    line = ""
+    for word in text.split(" "):
+        joined = f"{line} {word}" if line else word
+        if width(joined) <= wanted:
+            line = joined
+            continue
+        lines += [line] if line else []
+        start, end = 0, _fitting(word, 0, wanted)
+        while end < len(word):
+            lines.append(word[start:end])
+            start, end = end, _fitting(word, end, wanted)
+        line = word[start:]
+    return [*lines, line]
+
+
+_BREAK = re.compile(r"(?<! ) (?! )")  # single blanks: more than one align a table
+
+
+def folded(text: str, screen: int) -> list[str]:
+    """A line in lines of so many columns, broken between words. A name at the beginning, which ends with a colon, and a command stay whole, so
+    that they can be copied.
+
+    >>> folded("a b.jpg: Exif: refused at 442", 18), folded("1 group: exifnorm-pictures same --catalogue C", 30)
+    (['a b.jpg: Exif:', '    refused at 442'], ['1 group:', '    exifnorm-pictures same --catalogue C'])
+    """
+    if width(text) <= screen:
+        return [text]
+    body, command, more = text.partition("exifnorm-pictures ")
+    head, colon, rest = body.partition(": ")
+    words = [head + ":", *_BREAK.split(rest)] if colon and width(head) < screen else _BREAK.split(body)
+    lines = [words[0]]
+    for word in [*filter(None, words[1:]), *[command + more] * bool(command)]:
+        if width(lines[-1]) + 1 + width(word) <= screen:
+            lines[-1] += " " + word
+        else:
+            lines.append("    " + word)
+    return lines
+
+
+def _fitting(text: str, start: int, wanted: int) -> int:
+    """The end of the characters from `start` on that fit, at least one."""
+    if text.isascii():
+        return min(len(text), start + max(wanted, 1))
+    taken = 0
+    for at in range(start, len(text)):
+        taken += _width_of(text[at])
+        if taken > wanted:
+            return max(at, start + 1)
+    return len(text)
 
 
 def print_line(text: str) -> None:
@@ -89,8 +290,6 @@ def table_of(output: Output, heads: str, more: Sequence[str] = ()) -> Table | No
     """The table that --csv or --xlsx asks for, if one of them was given. Its heads have commas between them."""
     if not output.csv:
         return None
-    from .tables import Table  # whose regular expressions take long to compile
-
     return Table(output.sheet, [*heads.split(", "), *more])
 
 
@@ -160,3 +359,200 @@ def local_time(when: str) -> str:
         return moment.astimezone().strftime("%Y-%m-%d %H:%M")
     except (ValueError, OverflowError):
         return "no time"
+
+
+# JSON Lines (--json): an object a line, with the name and version of its shape. docs/JSON.md describes them, output.schema.json checks them.
+
+# The versions of commands whose objects have another one than 1. A version grows if a key is renamed or removed, or gets another meaning; a new
+# key alone doesn't count.
+_VERSIONS: dict[str, int] = {"changed": 2}
+
+
+_ENCODER = json.JSONEncoder(allow_nan=False)
+
+
+def line_of(command: str, record: str, members: Members) -> str:
+    """An object as a line: `record` names what it is about, such as `picture` or `summary`."""
+    return _ENCODER.encode(_object(command, record, members))
+
+
+def print_object(command: str, record: str, members: Members) -> None:
+    """Prints an object. One with long texts is printed in parts, since its line would be in memory several times; and before, all of it is
+    encoded, since a value that can't be must fail before a part is printed."""
+    whole = _object(command, record, members)
+    if _is_long(whole):
+        for _ in _ENCODER.iterencode(whole):
+            pass
+        sys.stdout.writelines(_ENCODER.iterencode(whole))
+        print()
+    else:
+        print(_ENCODER.encode(whole))
+
+
+def answer(output: Output, command: str, record: str, members: Members, lines: Iterable[str]) -> None:
+    """Prints an object if --json asks for it, and lines for people otherwise."""
+    if output.json:
+        print_object(command, record, members)
+    else:
+        print_lines(lines)
+
+
+def _object(command: str, record: str, members: Members) -> Members:
+    return {"schema": f"exifnorm-pictures/{command}/{_VERSIONS.get(command, 1)}", "record": record, **members}
+
+
+def _is_long(value: Any) -> bool:
+    """Whether a value has long texts, all together."""
+    left, waiting = ENCODED_CHARACTERS, [value]
+    while waiting:
+        one = waiting.pop()
+        kind = type(one)
+        if kind is str:
+            left -= len(one)
+            if left < 0:
+                return True
+        elif kind is dict:
+            waiting += one.values()
+        elif kind is list or kind is tuple:
+            waiting += one
+    return False
+
+
+def picture_object(path: bytes, problem: str | None, detail: str) -> Members:
+    """The members that each picture has."""
+    return {**path_members(path), "problem": problem or None, "detail": detail or None}
+
+
+def unread_members(picture: PictureRecord) -> Members:
+    """What was not read of a picture that was looked at just now, and what isn't known of a damaged one."""
+    parts = [one.what for one in picture.unread]
+    return {"not_read": parts, "damage": picture.damage or None, "not_known": picture.not_known}
+
+
+def record_objects(picture: PictureRecord) -> list[str]:
+    """The line for a picture that `index` looked at."""
+    about = {**picture_object(picture.path, picture.problem, picture.detail), "type": picture.type or None}
+    blocks = [one.members for one in picture.blocks]
+    return [line_of("index", "picture", {**about, "blocks": blocks, **unread_members(picture)})]
+
+
+# What commands say of the parts of a picture that were not read, and of a file that is cut off or damaged.
+
+REMEDY = "another copy of the file, as from a backup. The missing part can't be restored from this one."
+
+
+def unread(picture: Picture, parts: Sequence[str]) -> list[str]:
+    """Parts that were not read, and the kinds of blocks that may be missing of a damaged file."""
+    kinds = [NAMES[kind] for kind in picture.not_known]
+    return [*each_kind(parts), *([f"so {with_verb(kinds)} not known"] if kinds else [])]
+
+
+def picture_cut(picture: Picture) -> list[str]:
+    """Where a file is cut off or damaged whose metadata were read."""
+    fault = picture._damage_behind
+    return [f"{'cut off behind' if fault.startswith(CUT) else 'damaged outside'} its metadata: {fault}"] if fault else []
+
+
+def not_found(what: str, parts: Sequence[str]) -> str:
+    """What is said of what a picture doesn't have, as far as it was read.
+
+    >>> not_found("no block", ()), not_found("no block", ["trailer of 3 bytes"])
+    ('no block', 'no block in what was read of the file')
+    """
+    return what + (" in what is left of the file" if damage(parts) else " in what was read of the file" * bool(parts))
+
+
+def no_block(picture: Picture) -> str:
+    """What is said of a picture without a block."""
+    return not_found("no Exif, IPTC or XMP block", picture.not_read)
+
+
+def damage_members(picture: Picture) -> Members:
+    """Where a file is cut off, and the kinds of blocks that may be missing of a damaged one, for a JSON object."""
+    return {"damage": picture.damage or None, "not_known": picture.not_known}
+
+
+def lacks_some(picture: Picture, parts: Sequence[str]) -> bool:
+    """Whether the status of a command says that not everything is known: a file, a block or one of these parts was not read."""
+    return bool(picture._problem or parts) or any(not it.is_accepted for it in picture.blocks)
+
+
+def damage_lines(picture: Picture) -> list[str]:
+    """What may be missing of a file that is cut off or damaged, and the remedy; nothing for a whole file."""
+    if picture._problem and picture.damage:
+        return [f"The file is cut off: {picture.damage}.", f"  Remedy: {REMEDY}"]
+    if not damage(picture.not_read):
+        return [line for it in picture_cut(picture) for line in (f"The file is {it}.", f"  Remedy: {REMEDY}")]
+    kinds = " and ".join(NAMES[kind] for kind in picture.not_known) or "further blocks"
+    what = f"cut off: {picture.damage}" if cut(picture.not_read) else "damaged"
+    return [f"The file is {what}. What is missing may have {kinds}.", f"  Remedy: {REMEDY}"]
+
+
+def damage_remedy(picture: Picture) -> str | None:
+    """The remedy; none for a whole file."""
+    return REMEDY if picture.damage or damage(picture.not_read) else None
+
+
+# Tables for spreadsheets (--csv, --xlsx): RFC 4180 in UTF-8, a line of heads first.
+#
+# What a spreadsheet would run as a formula gets an apostrophe in front, also inside a text, where a spreadsheet that separates cells by
+# semicolons or tabs would begin another cell. Bytes that are no UTF-8 and control characters are escaped as in all other output; only ends
+# of lines and tabs inside a text stay.
+
+Cell = Union[str, bytes, int, float, None]
+
+# Excel and LibreOffice take these as the beginning of a formula, the wide ones in East Asian settings
+_FORMULA = r'\A(?=[\t\n])|(?:\A|(?<=[;\t\n]))(?="*[=+\-@＝＋－＠])'
+_SIGN = r"[\t\n=+\-@＝＋－＠]"  # without one no text is a formula
+_PLAIN = r"(?a)(?![+\-])[\w .+\-]*"  # most texts, which stay as they are
+_SPECIAL = r'[,;\t\n"]'  # what separates cells or rows somewhere
+
+
+def cell(text: str) -> str:
+    r"""A text as a cell: no spreadsheet takes it for a formula, and it has no control character but ends of lines and tabs.
+
+    >>> cell("=1+1"), cell("a;=1+1"), cell("a\x1bb"), cell("a\nb")
+    ("'=1+1", "a;'=1+1", 'a\\x1bb', 'a\nb')
+    """
+    return _compiled(_FORMULA).sub("'", safe_lines(text)) if _compiled(_SIGN).search(text) else safe_lines(text)
+
+
+@functools.lru_cache(maxsize=None)
+def _compiled(pattern: str) -> "re.Pattern[str]":
+    """A pattern, compiled once a table is printed: that takes long, and most commands print none."""
+    return re.compile(pattern)
+
+
+class Table:
+    """The table that --csv or --xlsx asks for: on standard output, or in a spreadsheet file."""
+
+    def __init__(self, sheet: Sheet | None, heads: Sequence[str]) -> None:
+        self._width = len(heads)
+        self._sheet = sheet
+        if self._sheet:
+            self._sheet.heads(heads)
+            return
+        self.row(*heads)
+
+    def row(self, *cells: Cell) -> None:
+        """Writes a row: a path is bytes, a number stays one, and None is an empty cell, as are those that aren't given."""
+        assert len(cells) <= self._width
+        cells += (None,) * (self._width - len(cells))
+        if self._sheet:
+            self._sheet.row(cells)
+        else:
+            sys.stdout.write(",".join(map(_quoted, cells)) + "\r\n")
+
+
+def _quoted(value: Cell) -> str:
+    """A cell as a line of a table has it: in quotes if it has what separates cells, be it commas, semicolons or tabs."""
+    if isinstance(value, str) and _compiled(_PLAIN).fullmatch(value):
+        return value
+    if value is None or isinstance(value, int):
+        return "" if value is None else str(value)
+    if isinstance(value, float):
+        from decimal import Decimal  # which few tables need
+
+        return format(Decimal(str(value)), "f")  # without an exponent
+    text = cell(shown_path(value) if isinstance(value, bytes) else value)
+    return '"' + text.replace('"', '""') + '"' if _compiled(_SPECIAL).search(text) else text

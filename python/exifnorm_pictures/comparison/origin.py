@@ -12,9 +12,9 @@ from ..extract.formats.jpeg_segments import read_head
 from ..extract.formats.streams import File, Parts, digest_of
 from ..files import opening
 from ..files.opening import opened
-from ..model.budgets import Budget, TooMuch
+from ..model.found import Budget, TooMuch
 from ..model.records import Stamp, is_marked_as
-from ..model.results import Result
+from ..model.texts import Result
 
 if TYPE_CHECKING:
     from ..extract.coded_picture import CodedPicture

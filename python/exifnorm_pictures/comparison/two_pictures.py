@@ -7,28 +7,25 @@ import os
 from typing import NamedTuple, Optional, Sequence
 
 from ..extract.formats.streams import digest_of_file
-from ..fields.block_fields import fields_of
+from ..fields.packing import fields_of
 from ..fields.choosing import EVERYTHING, Choice
-from ..fields.listing import MAKER_NOTE
-from ..fields.plain_names import group_name
+from ..fields.listing import LIMITS, MAKER_NOTE, Shown
+from ..fields.names import group_name
 from ..fields.plain_values import POSITION_TAGS, position
-from ..fields.shown import LIMITS, Shown
 from ..files.opening import held
 from ..files.session import Session
 from ..judge.sides import Sides
 from ..model.found import EXIF, IPTC, KINDS, NAMES
-from ..model.problems import Problem
+from ..model.texts import Problem, Result
 from ..model.records import PictureRecord, Stamp
-from ..model.results import Result
 from ..scan.batches import How
 from ..scan.looking import look
 from ..scan.walk import FoundFile
 from . import origin
 from .changed.states import Compared, compared
-from .differing import FieldDifference, exact_side
+from .wording import FieldDifference, exact_side, plain_sides
 from .changed.pairs import Pair
 from .origin import Answers, head_of_file
-from .wording import plain_sides
 
 
 Heads = tuple[Optional[bytes], Optional[bytes]]

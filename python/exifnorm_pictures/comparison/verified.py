@@ -5,16 +5,30 @@ An XMP sidecar, which is a block of its picture in the catalogue, is a file here
 
 from __future__ import annotations
 
+import contextlib
+import hashlib
+import io
+import itertools
 import os
-from typing import Iterator, NamedTuple, Sequence
+import re
+import threading
+from collections import deque
+from concurrent.futures import Future, ThreadPoolExecutor
+from itertools import chain, islice
+from typing import Iterable, Iterator, NamedTuple, Sequence
 
 from ..catalogue.store import Catalogue
-from ..model.columns import Damaged
-from ..model.problems import NOT_THERE, TEXTS
+from ..files import opening
+from ..files.copying import is_hollow
 from ..model.records import BlockRecord, PictureRecord, Stamp, has
+from ..model.columns import Damaged
+from ..model.found import HOLES
 from ..model.rest import changes, counting
+from ..model.texts import NOT_THERE, TEXTS, Word, WrongUse
 from ..model.verdicts import result_of, verdicts
-from ..model.words import Word
+from ..scan.batches import How, Result
+from ..scan.index import Look, looked
+from ..scan.walk import FoundFile
 
 
 class State(Word):
@@ -235,3 +249,108 @@ def _is_known(before: Catalogue, now: Catalogue, path: bytes) -> bool:
     """Whether a catalogue has a file: as a picture, or as a sidecar of one."""
     is_sidecar = next(now.rows(f"SELECT 1 FROM {_SIDECARS} WHERE path = ?", (path,)), None)
     return is_sidecar is not None or before.has(path)
+
+
+# The manifest of a bag (BagIt, RFC 8493) as a catalogue that has nothing but SHA-256 of each file.
+
+MANIFEST = "manifest-sha256.txt"
+PAYLOAD = b"data/"
+_AT_ONCE = 1000  # files of a transaction
+_LONGEST_LINE = 20_000  # bytes
+_LINE = re.compile(rb"([0-9A-Fa-f]{64})[ \t]+\*?(.+)")
+_ENCODED = re.compile(rb"%(0A|0D|25)", re.I)  # what a name may not have as it is, and only that
+
+
+class NoBag(WrongUse):
+    """A folder is no bag with a manifest of SHA-256."""
+
+
+def payload(bag: str) -> bytes:
+    """The folder of the files of a bag, which may have files that its manifest lacks, or all if that is empty."""
+    return os.path.join(os.fsencode(os.path.abspath(bag)), PAYLOAD.rstrip(b"/"))
+
+
+def fill(catalogue: Catalogue, bag: str) -> None:
+    """Puts the files of a bag's manifest into a new catalogue. Raises `NoBag` and `OSError`."""
+    run, count, manifest = catalogue.begin_run(""), 0, os.path.join(bag, MANIFEST)
+    files = _files(payload(bag), manifest)
+    while pictures := list(itertools.islice(files, _AT_ONCE)):
+        catalogue.put(run, pictures)
+        count += len(pictures)
+    if catalogue.number_of("SELECT count(*) FROM pictures") < count:
+        raise NoBag(f"{manifest} lists a file twice, perhaps with two digests")
+
+
+def _files(root: bytes, manifest: str) -> Iterator[PictureRecord]:
+    """The files of a manifest: each lies below the folder of the payload."""
+    if not os.path.lexists(manifest):
+        raise NoBag(f"{manifest} isn't there: a bag is verified by its manifest of SHA-256")
+    # a line ends with LF, CR or both; each character stands for a byte
+    with opening.reading(os.fsencode(manifest)) as octets, io.TextIOWrapper(octets, encoding="latin-1") as file:
+        for number, line in enumerate(iter(lambda: file.readline(_LONGEST_LINE + 1), ""), 1):
+            match = _LINE.fullmatch(line.rstrip("\n").encode("latin-1"))
+            name = _ENCODED.sub(lambda code: bytes.fromhex(code[1].decode()), match[2]) if match else b""
+            path = os.path.normpath(os.path.join(os.path.dirname(root), name))
+            if not match or len(line) > _LONGEST_LINE or not name.startswith(PAYLOAD) or not path.startswith(root + b"/"):
+                raise NoBag(f"{manifest}: line {number} is no SHA-256 of a file below data/")
+            yield PictureRecord.of(path, root, sha256=match[1].decode().lower())
+
+
+# Files that are only hashed: one with the SHA-256 that a catalogue has of it is what the catalogue knows of it, and isn't looked into.
+
+CHUNK = 1 << 20  # bytes: hashlib lets other threads run while it hashes
+OTHERS = 10_000  # files that are looked into together
+_AHEAD = 4  # files of each thread that wait to be reported
+
+
+def looker(before: Catalogue) -> Look:
+    """Looks only into those files that have another SHA-256 than a catalogue has."""
+
+    def look(work: Iterable[FoundFile], how: How) -> Iterator[Result]:
+        others: list[FoundFile] = []
+        for file, digest in _hashed(iter(work), how.processes):
+            known = before.picture(file.path) or PictureRecord()
+            if digest and known.sha256 == digest and known.problem not in NOT_THERE:
+                yield known.stamped(file.stamp)._replace(path=file.path, root=file.root)
+            else:
+                others.append(file)
+            if len(others) >= OTHERS:
+                yield from looked(others, how)
+                others.clear()
+        yield from looked(others, how)
+
+    return look
+
+
+def _hashed(work: Iterator[FoundFile], threads: int) -> Iterator[tuple[FoundFile, str]]:
+    """The files with their SHA-256, in their order. Several threads read them, one file each."""
+    begin = list(islice(work, 2))
+    files = chain(begin, work)
+    if threads == 1 or len(begin) < 2:
+        yield from ((file, digest(file.path)) for file in files)
+        return
+    waiting: "deque[tuple[FoundFile, Future[str]]]" = deque()
+    is_stopped = threading.Event()
+    with ThreadPoolExecutor(threads) as pool:
+        try:
+            for file in files:
+                waiting.append((file, pool.submit(digest, file.path, is_stopped)))
+                if len(waiting) > _AHEAD * threads:
+                    first, future = waiting.popleft()
+                    yield first, future.result()
+            yield from ((first, future.result()) for first, future in waiting)
+        finally:
+            is_stopped.set()
+            pool.shutdown(wait=True, cancel_futures=True)
+
+
+def digest(path: bytes, is_stopped: threading.Event | None = None) -> str:
+    """SHA-256 of a file; empty if it can't be read, is mostly holes, or if nobody needs it any more."""
+    whole = hashlib.sha256()
+    with contextlib.suppress(OSError), opening.reading(path) as file:
+        if is_hollow(file.fileno(), os.fstat(file.fileno()).st_size, HOLES):
+            return ""
+        while (piece := file.read(CHUNK)) and not (is_stopped and is_stopped.is_set()):
+            whole.update(piece)
+        return "" if piece else whole.hexdigest()
+    return ""

@@ -2,14 +2,129 @@
 
 from __future__ import annotations
 
+import difflib
 import re
 import unicodedata
-from typing import Sequence
+from dataclasses import dataclass
+from fractions import Fraction
+from itertools import compress, count
+from typing import Any, NamedTuple, Sequence
 
 from ..fields.field import Field
+from ..fields.listing import LONGEST_BYTES, OCTETS, counted_type, digest_of, order_of, shortened
+from ..fields.names import group_name, group_of
 from ..fields.plain_texts import without_nul
 from ..fields.plain_values import in_line, plain
-from .differing import FieldDifference, exact_side
+from ..model.texts import grouped
+from ..model.xmp_values import Long
+
+# The fields that differ between two blocks, with their values, and which of them are equal numbers that are only written otherwise.
+
+NUMBERS = "BYTE SHORT LONG WHOLE SSHORT SLONG RATIONAL SRATIONAL".split()
+
+
+class FieldDifference(NamedTuple):
+    """A field that only one block has, or that has other values in the two."""
+
+    directory: str
+    tag: str
+    before: tuple[Field, ...]  # several of a repeated DataSet, none if there is no such field
+    after: tuple[Field, ...]
+    block: str = ""  # of which block; empty for the first one of its kind
+    part: str = ""  # the whole block or directory, such as `IPTC`, that came or went with this field; empty if both pictures have it
+    note: str = ""  # what is printed in place of the values
+
+    @property
+    def name(self) -> str:
+        """The name that is printed: `IFD0:Artist`."""
+        return group_name(self.directory, self.tag) + (f" ({self.block})" if self.block else "")
+
+    @property
+    def sign(self) -> str:
+        """`+` for a field that came, `-` for one that went, and `~` for one that changed."""
+        if self.note or (self.before and self.after):
+            return "~"
+        if self.after:
+            return "+"
+        return "-"
+
+    @property
+    def is_equal_number(self) -> bool:
+        """Whether both have equal numbers, or the same bytes with another type."""
+        pairs = [*zip(self.before, self.after)] if len(self.before) == len(self.after) and not self.note else []
+        return bool(pairs) and all(one.count == other.count and equal_form(one) == equal_form(other) for one, other in pairs)
+
+
+def exact_side(fields: Sequence[Field]) -> str | None:
+    """The exact values of a field with their types; None without any.
+
+    >>> exact_side([Field("main", "013b", "ASCII", 5, b"Otto\\0")])
+    'ascii[5] "Otto"'
+    """
+    return ", ".join(f"{counted_type(it)} {shortened(it.exact)}" for it in fields) if fields else None
+
+
+def bare(fields: Sequence[Field]) -> str | None:
+    """The exact values of a field, with their types unless they are texts; None without any."""
+    texts = ("ASCII", "octets", "text", "URI")
+    return ", ".join(shortened(it.exact) if it.type in texts else exact_side([it]) or "" for it in fields) if fields else None
+
+
+def equal_form(field: Field) -> tuple[object, ...]:
+    """What is equal for fields that differ only in their form: numbers by value, and bytes whatever their type is.
+
+    >>> equal_form(Field("exif", "829a", "RATIONAL", 1, ((10, 80000),))) == equal_form(Field("exif", "829a", "RATIONAL", 1, ((1, 8000),)))
+    True
+    >>> equal_form(Field("exif", "a300", "BYTE", 1, b"\\3")) == equal_form(Field("exif", "a300", "UNDEFINED", 1, b"\\3"))
+    True
+    """
+    if field.type in OCTETS:
+        return ("octets", field.count, _octets_form(field.content))
+    if field.type not in NUMBERS or isinstance(field.content, Long):
+        return (field.type, field.count, field.content)
+    return tuple(map(_plain_number, field.content))
+
+
+def _octets_form(value: Any) -> object:
+    """Bytes or their digest, the same whether they are kept whole or not."""
+    if isinstance(value, Long):
+        return value.digest
+    if len(value) <= LONGEST_BYTES:
+        return value
+    return digest_of(value)
+
+
+def _plain_number(value: Any) -> object:
+    """A number by its value, and a fraction with the denominator 0 by its sign."""
+    if isinstance(value, int):
+        return Fraction(value)
+    above, below = value
+    return Fraction(above, below) if below else ("no number", (above > 0) - (above < 0))
+
+
+def differences(before: Sequence[Field], after: Sequence[Field], block: str = "") -> list[FieldDifference]:
+    """The fields that differ, in the order of a listing; values of a repeated DataSet are compared as one list.
+
+    >>> [it.name for it in differences([Field("main", "010f", "ASCII", 2, b"a\\0")], [Field("main", "010f", "ASCII", 2, b"b\\0")])]
+    ['IFD0:Make']
+    """
+    first, second = _by_name(before), _by_name(after)
+    differ = [key for key in {*first, *second} if first.get(key) != second.get(key)]
+    directories = [{where for where, _ in side} for side in (first, second)]
+    return [
+        FieldDifference(*key, tuple(first.get(key, ())), tuple(second.get(key, ())), block, _directory(key[0], directories))
+        for key in sorted(differ, key=order_of)
+    ]
+
+
+def _directory(where: str, there: Sequence["set[str]"]) -> str:
+    """The directory of a field, if only one of two blocks has it."""
+    return "" if all(where in it for it in there) else group_of(where)
+
+
+def _by_name(fields: Sequence[Field]) -> dict[tuple[str, str], list[Field]]:
+    return grouped(((it.directory, it.tag), it) for it in fields)
+
 
 NONE = "(none)"  # in place of a value that isn't there
 
@@ -113,3 +228,89 @@ def tag_of(difference: FieldDifference) -> str:
     if difference.directory == "xmp" or difference.tag in difference.name:
         return ""
     return difference.tag if ":" in difference.tag else f"0x{difference.tag}" if len(difference.tag) == 4 else ""
+
+
+# The words that changed between two texts.
+
+# Scripts without blanks between words have a word for each character
+_NO_BLANKS = "\u0e00-\u0eff\u1000-\u109f\u1780-\u17ff\u3040-\u30ff\u3400-\u4dbf\u4e00-\u9fff\uf900-\ufaff\U00020000-\U0003ffff"
+_WORD = re.compile(rf"\s+|[^\W{_NO_BLANKS}]+|.", re.S)
+STEPS = 1_000_000  # of comparing two words with each other, for all texts of a picture: a stranger's may have millions of words
+KEPT, OUT, IN = "=", "-", "+"
+
+
+class Step(NamedTuple):
+    """Words that were kept, taken out (`-`) or put in (`+`)."""
+
+    sign: str
+    text: str
+
+
+class Piece(NamedTuple):
+    """A piece of a text, and whether the other text doesn't have it."""
+
+    text: str
+    is_changed: bool
+
+
+Pieces = tuple[Piece, ...]
+
+
+def _common(words: Sequence[str], others: Sequence[str]) -> int:
+    """How many words two texts have in common at their beginning."""
+    return next(compress(count(), map(str.__ne__, words, others)), min(len(words), len(others)))
+
+
+def _joined(steps: Sequence[Step]) -> list[Step]:
+    """The steps without empty ones, and with those joined that follow each other. Blanks and signs between two words that changed count as changed."""
+    joined: list[Step] = []
+    out, put = "", ""
+    left = [it for it in steps if it.text]
+    for at, step in enumerate(left):
+        is_between = 0 < at < len(left) - 1 and step.sign == KEPT and not any(map(str.isalnum, step.text))
+        if step.sign != KEPT or is_between:
+            out += step.text * (step.sign != IN)
+            put += step.text * (step.sign != OUT)
+            continue
+        joined += [Step(OUT, out)] * bool(out) + [Step(IN, put)] * bool(put) + [step]
+        out, put = "", ""
+    return joined + [Step(OUT, out)] * bool(out) + [Step(IN, put)] * bool(put)
+
+
+@dataclass
+class Marker:
+    """Marks the words of texts for a limited number of steps; then only common beginnings and ends aren't marked."""
+
+    steps: int = STEPS
+
+    def script(self, before: str, after: str) -> list[Step]:
+        """How one text becomes the other one, word by word.
+
+        >>> Marker().script("a bowl, 1820", "a bowl, 1280")
+        [Step(sign='=', text='a bowl, '), Step(sign='-', text='1820'), Step(sign='+', text='1280')]
+        """
+        words, others = _WORD.findall(before), _WORD.findall(after)
+        start = _common(words, others)
+        ends = _common(words[start:][::-1], others[start:][::-1])
+        first, second = words[start : len(words) - ends], others[start : len(others) - ends]
+        self.steps -= len(first) * len(second)
+        codes = [("replace", 0, len(first), 0, len(second))]
+        if self.steps >= 0 and first and second:
+            codes = difflib.SequenceMatcher(None, first, second, False).get_opcodes()
+        steps = [Step(KEPT, "".join(words[:start]))]
+        for word, begin, end, other_begin, other_end in codes:
+            out, put = "".join(first[begin:end]), "".join(second[other_begin:other_end])
+            steps += [Step(KEPT, out)] if word == "equal" else [Step(OUT, out), Step(IN, put)]
+        return _joined([*steps, Step(KEPT, "".join(words[len(words) - ends :]))])
+
+    def marked(self, before: str | None, after: str | None) -> tuple[Pieces | None, Pieces | None]:
+        """Both texts in pieces; None for a text that isn't there.
+
+        >>> Marker().marked("a bowl, 1820", "a bowl, 1280")[1]
+        (Piece(text='a bowl, ', is_changed=False), Piece(text='1280', is_changed=True))
+        """
+        if before is None or after is None:
+            return (None if before is None else (Piece(before, False),)), (None if after is None else (Piece(after, False),))
+        steps = self.script(before, after)
+        first, second = (tuple(Piece(it.text, it.sign != KEPT) for it in steps if it.sign in (KEPT, sign)) for sign in (OUT, IN))
+        return first, second

@@ -12,14 +12,11 @@ import hashlib
 from operator import lt
 from typing import Iterable, Iterator, Sequence
 
-from ..model.budgets import STRIPS, Budget
-from ..model.found import IN_PICTURE, Broken
+from ..model.found import IN_PICTURE, STRIPS, Broken, Budget
 from ..model.tiff_types import IFD, LONG, LONG8, SHORT
 from .formats import tiff
-from .formats.parts import Part
-from .formats.streams import Stream, add_to, read_at
-from .formats.tiff_directories import Directories, Directory
-from .formats.tiff_entries import BIG, CLASSIC, IN_ENTRY, Entry
+from .formats.streams import Part, Stream, add_to, read_at
+from .formats.tiff_directories import Directories, Directory, BIG, CLASSIC, IN_ENTRY, Entry
 
 _WIDTH, _HEIGHT, _BITS, _COMPRESSION, _PHOTOMETRIC = 0x0100, 0x0101, 0x0102, 0x0103, 0x0106
 _SAMPLES, _ROWS, _PLANES, _TILE_WIDTH, _TILE_HEIGHT = 0x0115, 0x0116, 0x011C, 0x0142, 0x0143

@@ -16,10 +16,8 @@ import time
 from typing import TYPE_CHECKING, Callable, NamedTuple
 
 from ..files import signals
-from ..model.budgets import OUTPUT, PROGRAM_BYTES
-from ..model.errors import Failure
-from ..model.problems import Problem
-from ..model.texts import reason
+from ..model.found import OUTPUT, PROGRAM_BYTES
+from ..model.texts import Failure, Problem, reason
 
 if TYPE_CHECKING:
     import subprocess  # which takes long to import: most runs start no program

@@ -6,7 +6,7 @@ from typing import TYPE_CHECKING, Any, ClassVar, NoReturn, Union
 
 from ..model.found import EXIF, NAMES
 from ..model.xmp_values import Long, XmpValue
-from .plain_names import exact_key, group_name
+from .names import exact_key, group_name
 
 if TYPE_CHECKING:
     from .typed import Value

@@ -6,6 +6,7 @@ import re
 from fractions import Fraction
 from typing import NamedTuple, Sequence
 
+from ..model.texts import grouped
 from . import other_names
 from .dates import plain_date
 from .field import Field
@@ -51,11 +52,7 @@ def words_of(directory: str, key: str) -> dict[str, list[str]]:
     (['turn 90° clockwise to view', 'Rotate 90 CW'], ['upright', 'Horizontal (normal)'])
     """
     tag = tag_of(directory, key)
-    words: dict[str, list[str]] = {}
-    for table in (WORDS, _OTHER_WORDS):
-        for number, word in table.get(tag, {}).items():
-            words.setdefault(number, []).append(word)
-    return words
+    return grouped(it for table in (WORDS, _OTHER_WORDS) for it in table.get(tag, {}).items())
 
 
 _UNIT = re.compile(r"(?:f/)?([^ ]+?)(?: (?:s|mm|m|EV|UTC)|°)?")

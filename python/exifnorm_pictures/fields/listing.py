@@ -6,11 +6,12 @@ import hashlib
 import re
 from typing import Iterable, Iterator, Sequence
 
-from ..model.texts import quoted
 from ..model import xmp_values
+from ..model.found import SHOWN_CHARACTERS, SHOWN_FIELDS
+from ..model.texts import quoted
 from ..model.xmp_values import Long, XmpValue
 from .field import Content, Field, Ratio
-from .plain_names import group_of, plain_name
+from .names import group_of, plain_name
 
 LONGEST_TEXT = 65_536  # bytes of a text that is kept whole
 LONGEST_OTHER_TEXT = 400  # characters of bytes that happen to be a text, in a field of no texts
@@ -231,3 +232,33 @@ def order_of(key: tuple[str, str]) -> tuple[int, tuple[int, ...], str]:
     else:
         number = (int(tag, 16),) if re.fullmatch("[0-9a-f]{4}", tag) else (1 << 16,)  # a thumbnail, after all tags
     return (_PLACES.index(where) if where in _PLACES else len(_PLACES), number, tag)
+
+
+# How much of a picture, or of two, a command prints. Pages can share a block of many fields, so that a small file has millions.
+
+LIMITS = f"{SHOWN_FIELDS:,} values or {SHOWN_CHARACTERS >> 20} MB"
+_HASHED = 8  # bytes that are hashed in the time in which a character is printed
+
+
+class Shown:
+    """What is still printed."""
+
+    def __init__(self) -> None:
+        self._values, self._characters = SHOWN_FIELDS, SHOWN_CHARACTERS
+
+    @property
+    def is_full(self) -> bool:
+        """Whether nothing further is printed."""
+        return self._values <= 0 or self._characters <= 0
+
+    def add(self, values: int, characters: int) -> None:
+        """Counts what is printed."""
+        self._values -= values
+        self._characters -= characters
+
+    def add_fields(self, fields: Iterable[Field], characters: int) -> None:
+        """Counts fields, which are printed in so many characters: of XMP the members of each list, and bytes of which a digest is printed."""
+        for field in fields:
+            self.add(max(1, field.count) if field.directory == "xmp" else 1, 0)
+            characters += len(field.content) // _HASHED if isinstance(field.content, bytes) else 0
+        self.add(0, characters)

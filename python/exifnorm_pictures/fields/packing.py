@@ -14,13 +14,99 @@ from __future__ import annotations
 
 import hashlib
 import json
-from typing import Any, Callable, NamedTuple, Sequence
+import zlib
+from functools import partial
+from typing import Any, Callable, Generic, Iterable, Iterator, NamedTuple, Sequence, TypeVar
 
-from ..model.budgets import FIELD_BYTES, NESTED
+from ..model.records import BlockRecord
 from ..model.columns import Damaged
-from ..model.xmp_values import Array, Literal, Long, Uri, Structure, XmpValue
+from ..model.found import FIELD_BYTES, KEPT_BYTES, LINES_BYTES, NESTED
+from ..model.xmp_values import Array, Literal, Long, Structure, Uri, XmpValue
 from .field import Content, Field
-from .listing import MAKER_NOTE, OCTETS, digest_of, kept_property, kept_value, plain_text
+from .listing import MAKER_NOTE, OCTETS, digest_of, kept_property, kept_value, plain_text, rest_of
+
+# The packed fields of all blocks of a picture as few bytes: a picture often has a text in several blocks, so they are compressed together,
+# those of each block in a line.
+
+_SHORTEST = 200  # characters that compression makes longer, or hardly shorter
+_SHORT = 600  # characters for which codes of their own take longer than they spare bytes
+_MIDDLE = 4096  # characters that are compressed with small buffers
+_LEVEL = 3  # of zlib: 6 takes twice as long for texts, and makes them 4 % shorter
+_USUAL = (  # what short ones are compressed with as if it stood before them; the most frequent last
+    b'["exif","0132","ASCII",20,"20["exif","927c","UNDEFINED",,["exif","a002","LONG",1,["exif","829a","RATIONAL",1,[1,'
+    b'["main","010f","ASCII",6,"Canon["main","0112","SHORT",1,1],["xmp","photoshop:","xmp:CreateDate","text",1,["'
+    b'["xmp","dc:title","Alt",1,[{"Alt":[["","x-default"]]}]],["xmp","dc:subject","Bag",["iptc","2:120","octets",["iptc","2:25","octets",'
+)
+# zlib's default buffers are made for long texts, and to make and clear them takes longer than compressing a short one
+_FOR_SHORT = zlib.compressobj(_LEVEL, zlib.DEFLATED, 12, 5, zlib.Z_FIXED, _USUAL)
+_FOR_MIDDLE = zlib.compressobj(_LEVEL, zlib.DEFLATED, 12, 5, zlib.Z_DEFAULT_STRATEGY, _USUAL)
+
+
+def is_short(octets: bytes) -> bool:
+    """Whether packed fields are few bytes, such as the result of `left_out`."""
+    return len(octets) <= _SHORTEST
+
+
+def joined(texts: Sequence[bytes | None]) -> list[bytes | None]:
+    """What a catalogue keeps of the packed fields of a picture's blocks, by block: all of them with the first block that has fields.
+
+    >>> joined([None, b"[7]", None, b"[8]"])
+    [None, b'[7]\\n\\n[8]', None, None]
+    """
+    cells: list[bytes | None] = [None] * len(texts)
+    for first, text in enumerate(texts):
+        if text:
+            cells[first] = _compressed(b"\n".join([text or b"" for text in texts[first:]]))
+            break
+    return cells
+
+
+def parted(cells: Iterable[bytes | None]) -> list[bytes | None]:
+    """The packed fields of a picture's blocks, from the result of `joined`. Raises `Damaged`, also if they are more than `index` keeps.
+
+    >>> parted(joined([None, b"[7]", None, b"[8]", None])), parted(joined([b"[7]" * 999, b"[8]"])) == [b"[7]" * 999, b"[8]"]
+    ([None, b'[7]', None, b'[8]', None], True)
+    """
+    texts = []
+    following: Iterator[bytes] = iter(())
+    left = KEPT_BYTES
+    for cell in cells:
+        if cell is not None:
+            following = iter(_lines(cell))
+        text = next(following, b"")
+        left -= 0 if is_short(text) else len(text)
+        if left < 0:
+            raise Damaged("the fields of a picture are too long")
+        texts.append(text or None)
+    if next(following, None) is not None:
+        raise Damaged("fields of no block")
+    return texts
+
+
+def _lines(cell: bytes) -> list[bytes]:
+    """The lines that are kept with a block. No compressed text begins with a bracket (RFC 1950, 2.2)."""
+    if not isinstance(cell, bytes):
+        raise Damaged(f"{cell!r:.200} is a value of another type")
+    try:
+        if cell[:1] == b"[":
+            return cell.split(b"\n")
+        opening = zlib.decompressobj(zdict=_USUAL)
+        text = opening.decompress(cell, LINES_BYTES)
+    except zlib.error as error:
+        raise Damaged(f"fields that can't be read: {error}") from error
+    if opening.unconsumed_tail:
+        raise Damaged("the fields of a picture are too long")
+    if not opening.eof:
+        raise Damaged("fields that are cut off")
+    return text.split(b"\n")
+
+
+def _compressed(text: bytes) -> bytes:
+    if len(text) <= _SHORTEST:
+        return text
+    compressing = _FOR_SHORT.copy() if len(text) <= _SHORT else _FOR_MIDDLE.copy() if len(text) <= _MIDDLE else zlib.compressobj(_LEVEL)
+    return compressing.compress(text) + compressing.flush()
+
 
 _NOTE = f'["{MAKER_NOTE[0]}","{MAKER_NOTE[1]}",'  # as the MakerNote begins
 
@@ -226,3 +312,82 @@ def _list(value: Any) -> list[Any]:
     if not isinstance(value, list):
         raise ValueError("something else than a list")
     return value
+
+
+# The fields of a block, of one that was judged just now and of one that a catalogue has.
+
+Made = TypeVar("Made")
+
+
+class Once(Generic[Made]):
+    """What is made once, when somebody asks for it."""
+
+    __slots__ = ("_make", "_made")
+
+    def __init__(self, make: Callable[[], Made]) -> None:
+        self._make: Callable[[], Made] | None = make
+
+    def all(self) -> Made:
+        """All of it."""
+        if self._make is not None:
+            self._made = self._make()
+            self._make = None  # with what it is made of, which is as long as it is
+        return self._made
+
+
+class Fields(Once["list[Field] | None"]):
+    """The fields of a normal form, of the statements of a packet, or of a block of a catalogue, in
+    the order of a listing; None if a catalogue doesn't have them."""
+
+    __slots__ = ()
+
+
+class _KeptFields(Fields):
+    """The fields of a block of a catalogue, by its number in the picture, whose packed fields it
+    keeps together."""
+
+    __slots__ = ("_texts", "_number")
+
+    def __init__(self, texts: Once[list[bytes | None]], number: int) -> None:
+        super().__init__(partial(_unpacked, texts, number))
+        self._texts, self._number = texts, number
+
+    def packed(self) -> bytes | None:
+        """The packed fields."""
+        return self._texts.all()[self._number]
+
+
+def _unpacked(texts: Once[list[bytes | None]], number: int) -> list[Field] | None:
+    text = texts.all()[number]
+    return unpacked(text) if text else None
+
+
+_FIELDS = BlockRecord._fields.index("fields")  # after which only what a catalogue doesn't have follows
+
+
+def with_kept_fields(blocks: Sequence[BlockRecord]) -> list[BlockRecord]:
+    """The blocks of a picture of a catalogue, of all its rows in their order, each with its own fields."""
+    texts = Once(partial(parted, [block.fields for block in blocks]))
+    return [BlockRecord._make((*block[:_FIELDS], None, block.but_note, _KeptFields(texts, at))) for at, block in enumerate(blocks)]
+
+
+def packed_fields(block: BlockRecord) -> bytes | None:
+    """The packed fields of a block of a catalogue, if it has them. Raises `Damaged`."""
+    return block.fresh.packed() if isinstance(block.fresh, _KeptFields) else block.fields
+
+
+def known_fields(block: BlockRecord) -> list[Field] | None:
+    """The fields of a block; None of one that has no meaning, or in a catalogue that doesn't have them. Raises `Damaged`."""
+    if isinstance(block.fresh, Fields):
+        return block.fresh.all()
+    return unpacked(block.fields) if block.fields else None
+
+
+def fields_of(block: BlockRecord) -> list[Field]:
+    """The same, where those that aren't known count as none. Raises `Damaged`."""
+    return known_fields(block) or []
+
+
+def rests_of(blocks: Iterable[tuple[BlockRecord, list[Field]]]) -> list[str]:
+    """What is said of blocks that have more fields than are kept: a text may be among these."""
+    return [f"the fields of {block.name}{rest}" for block, fields in blocks for rest in [rest_of(fields)] if rest]

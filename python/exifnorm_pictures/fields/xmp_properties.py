@@ -7,11 +7,12 @@ import hashlib
 from exifnorm._library import library
 from exifnorm._properties import _HEAD, _TAIL
 
-from ..model.budgets import Budget
+from ..model.found import Budget
+from ..model.texts import grouped
 from ..model.xmp_names import short_name
-from ..xmp.reading import SMALL, of_form
-from ..xmp.tree import MEMBER, Literal, Node, Uri, Statement, Statements, Value, key_of, unique
 from ..model.xmp_values import Array, LongStructure, Structure, XmpValue, exact, texts_in
+from ..xmp.reading import SMALL, of_form
+from ..xmp.tree import MEMBER, Literal, Node, Statement, Statements, Uri, Value, key_of, unique
 from .field import Field
 from .listing import DIGITS
 from .packing import packed
@@ -26,9 +27,7 @@ def fields_of_statements(statements: Statements) -> list[Field]:
     >>> fields_of_statements((Statement("http://purl.org/dc/elements/1.1/format", Literal("image/jpeg")),))
     [Field(name='XMP-dc:format', text='image/jpeg')]
     """
-    by_property: dict[str, list[Value]] = {}
-    for predicate, value in unique(statements):
-        by_property.setdefault(short_name(predicate), []).append(value)
+    by_property = grouped((short_name(predicate), value) for predicate, value in unique(statements))
     return [_field(name, values) for name, values in sorted(by_property.items())]
 
 

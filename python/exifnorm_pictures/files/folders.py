@@ -20,7 +20,7 @@ from itertools import islice
 from typing import Any, Iterator, Sequence
 
 from ..model.texts import reason, shown_path
-from . import opening, rights, signals
+from . import atomic, opening, signals
 from .atomic import NotReplaced, locked, sweep
 
 _LONGEST = 64_000_000  # bytes of a list of names
@@ -38,7 +38,7 @@ _PIECE = 1_000_000
 class NewFolder:
     """A folder that is being written, flat, with a list of its files. `earlier` is the one that it replaces."""
 
-    def __init__(self, path: bytes, earlier: bytes, allowed: rights.Rights | None, sources: Sequence[str]) -> None:
+    def __init__(self, path: bytes, earlier: bytes, allowed: atomic.Rights | None, sources: Sequence[str]) -> None:
         self.path, self._earlier, self._allowed, self._sources = path, earlier, allowed, sources
         self.lines: list[str] = []  # of the list: the SHA-256 and the name of each file, as sha256sum has them
 
@@ -47,9 +47,9 @@ class NewFolder:
         with open(os.path.join(self.path, os.fsencode(name)), "wb") as file:
             number = file.fileno()
             if self._allowed:
-                rights.give(number, self._allowed)
+                atomic.give(number, self._allowed)
             else:
-                rights.limit(number, self._sources)
+                atomic.limit(number, self._sources)
             file.write(octets)
             file.flush()
             os.fsync(number)
@@ -151,7 +151,7 @@ def _remove(folder: bytes, mark: str) -> None:
 _FIRST = b"The pages of a report by exifnorm-pictures, which a new one replaces:\n"
 
 
-def _rights_of_earlier(there: bytes, mark: str) -> tuple[rights.Rights, rights.Rights] | None:
+def _rights_of_earlier(there: bytes, mark: str) -> tuple[atomic.Rights, atomic.Rights] | None:
     """The rights of an earlier folder and of its list. Raises `NotReplaced` if something else is there."""
     try:
         now = os.stat(there)
@@ -179,7 +179,7 @@ def _rights_of_earlier(there: bytes, mark: str) -> tuple[rights.Rights, rights.R
             raise NotReplaced(
                 f"the earlier report has files that are none of its pages, or not as it wrote them, such as {shown_path(name)}"
             )
-    return rights.rights_of(there), rights.rights_of(listed)
+    return atomic.rights_of(there), atomic.rights_of(listed)
 
 
 def _is_as_written(path: bytes, due: bytes | None) -> bool:
@@ -194,12 +194,12 @@ def _is_as_written(path: bytes, due: bytes | None) -> bool:
     return due == b"%s  " % digest.hexdigest().encode()
 
 
-def _give(room: bytes, mark: str, before: rights.Rights | None) -> None:
+def _give(room: bytes, mark: str, before: atomic.Rights | None) -> None:
     """Gives a new folder the rights of the one that it replaces; otherwise those may enter it who may read its files."""
     number = os.open(room, os.O_DIRECTORY)
     try:
         if before:
-            rights.give(number, before)
+            atomic.give(number, before)
         else:
             mode = os.stat(os.path.join(room, os.fsencode(mark))).st_mode & 0o777
             os.fchmod(number, mode | 0o700 | (mode & 0o444) >> 2)

@@ -9,8 +9,7 @@ import sys
 from types import FrameType
 from typing import IO, Iterator
 
-from ..model.errors import Failure
-from ..model.texts import safe
+from ..model.texts import Failure, safe
 
 SIGNALS = tuple(getattr(signal, it) for it in ("SIGTERM", "SIGHUP") if hasattr(signal, it))
 _HEEDED = (*SIGNALS, signal.SIGINT)

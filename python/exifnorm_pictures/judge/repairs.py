@@ -14,8 +14,9 @@ from typing import Callable, Iterator, NamedTuple, Sequence, Union
 import exifnorm
 
 from ..extract.structure import HEADER, LINKS, MAKER_NOTE, Directory, Entry, Walk
-from ..model.budgets import Budget
+from ..model.found import Budget
 from ..model.steps import Step
+from ..model.texts import grouped
 from ..model.tiff_types import EXIF, IFD, LONG
 
 MOST = 100  # steps
@@ -118,9 +119,7 @@ def _next(cause: str, original: bytes, now: bytes, budget: Budget) -> _Done:
 
 def _changed_value(old: _Walk, walk: _Walk, budget: Budget) -> _Done:
     """Leaves out a value that the block didn't have: it shares bytes with a table, which other steps have changed."""
-    known: dict[tuple[str, int, int], list[Entry]] = {}
-    for directory, entry in old.entries():
-        known.setdefault((directory.name, entry.tag, entry.elements), []).append(entry)
+    known = grouped(((directory.name, entry.tag, entry.elements), entry) for directory, entry in old.entries())
     for directory, entry in walk.entries():
         alike = known.get((directory.name, entry.tag, entry.elements), [])
         if entry.tag not in _POINTERS and not _had(old, alike, walk.value(entry), budget):

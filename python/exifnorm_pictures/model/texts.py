@@ -1,4 +1,4 @@
-"""Results as lines for people or as JSON objects, and names of files and texts of pictures as one safe line.
+"""Words for people: results and problems with what follows from them, errors, and names of files and texts of pictures as one safe line.
 
 Such a line can't control a terminal, and has no end of a line in it.
 """
@@ -9,11 +9,249 @@ import os
 import re
 from contextlib import suppress
 from functools import lru_cache
+from enum import Enum, Flag, auto
 from types import TracebackType
-from typing import Any
+from typing import Any, ClassVar, Iterable, TypeVar
+
+# What a comparison finds: each result with its word, and what it says.
+
+# Fixed lists of words: a member of an enumeration that is its word.
+
+
+class Word(str, Enum):
+    """A word of a fixed list. Printed, compared, kept in a catalogue and written as JSON it is a text like any other.
+
+    Behind its word a member has a value for each attribute that its class declares. Of those that are left out a text is empty, and another
+    one False.
+
+    >>> class Colour(Word):
+    ...     is_warm: bool
+    ...     text: str
+    ...     RED = ("red", True, "as a rose")
+    ...     BLUE = "blue"
+    >>> f"{Colour.RED}", Colour.RED == "red", Colour("red") is Colour.RED
+    ('red', True, True)
+    >>> [(colour.is_warm, colour.text) for colour in Colour]
+    [(True, 'as a rose'), (False, '')]
+    """
+
+    def __new__(cls, word: str, *values: object) -> "Word":
+        member = str.__new__(cls, word)
+        member._value_ = word
+        given = iter(values)
+        for name, kind in cls.__dict__.get("__annotations__", {}).items():
+            setattr(member, name, next(given, "" if kind == "str" else False))
+        return member
+
+    __str__, __hash__ = str.__str__, str.__hash__
+
+    def __format__(self, form: str) -> str:
+        return str.__format__(self, form)
+
+
+# Why a file has no blocks: each problem with its word, its meaning for people, and what follows from it.
+
+
+class Follows(Flag):
+    """What follows from a problem."""
+
+    NOTHING = 0
+    NO_FILE = auto()  # the name leads to no file, so nothing is compared
+    GONE = auto()  # the file was there at an earlier run
+    NO_BYTES = auto()  # nobody can read its bytes, so what was known of it stays
+    FAILED = auto()  # it should be readable, and isn't
+    AGAIN = auto()  # it may be solved although the file is the same: it is looked at again
+
+
+class Problem(Word):
+    """A problem. It is its word, as JSON and catalogues have it: `Problem.VANISHED == "Vanished"`."""
+
+    text: str  # for people
+    counted: str  # as counts have it: "5 at which a program failed"
+    follows: Follows
+    program: str  # which solves it, once it is installed
+
+    NO_PICTURE = ("NoPicture", "the file is no picture that ExifTool knows", "no picture", Follows.NOTHING)
+    UNREADABLE = ("Unreadable", "the file can't be read", "not readable", Follows.NO_BYTES | Follows.FAILED | Follows.AGAIN)
+    VANISHED = (
+        "Vanished",
+        "there is no such file any more",
+        "gone since an earlier run",
+        Follows.NO_FILE | Follows.GONE | Follows.NO_BYTES | Follows.AGAIN,
+    )
+    MOVED = ("Moved", "the file has another name now", "moved since an earlier run", Follows.NO_FILE | Follows.GONE | Follows.AGAIN)
+    NO_FILE = ("NoFile", "there is no such file", "no such file", Follows.NO_BYTES)
+    LINK_TO_NOTHING = (
+        "LinkToNothing",
+        "a symbolic link that leads to no file",
+        "a link that leads to no file",
+        Follows.NO_FILE | Follows.NO_BYTES | Follows.AGAIN,
+    )
+    NOT_A_FILE = (
+        "NotAFile",
+        "a folder, a pipe, a socket or a device",
+        "a pipe, a socket or a device",
+        Follows.NO_FILE | Follows.NO_BYTES | Follows.AGAIN,
+    )
+    SEVERAL_BLOCKS = (
+        "SeveralBlocks",
+        "a damaged CR3 or a film of Canon, which have several Exif blocks (CMT1 to CMT4): ExifTool extracts only the first,"
+        " so two different ones could seem to be the same",
+        "damaged CR3, or a film of Canon",
+        Follows.NOTHING,
+    )
+    BIG_TIFF = (
+        "BigTIFF",
+        "this BigTIFF can't be read, and no other program extracts its Exif block",
+        "BigTIFF that can't be read",
+        Follows.NOTHING,
+    )
+    NEEDS_EXIV2 = (
+        "NeedsExiv2",
+        "exiv2, which extracts the Exif block of raw files, isn't installed (package exiv2)",
+        "raw, and exiv2 is not installed",
+        Follows.FAILED,
+        "exiv2",
+    )
+    NEEDS_EXIFTOOL = (
+        "NeedsExifTool",
+        "ExifTool, which reads this format, isn't installed",
+        "of another format, and ExifTool is not installed",
+        Follows.FAILED,
+        "exiftool",
+    )
+    TOO_MUCH = ("TooMuch", "reading the file exceeds a limit that no real picture reaches", "over a limit", Follows.FAILED)
+    TOO_SLOW = (
+        "TooSlow",
+        "the program that extracts blocks took longer than its limit; the next run tries again",
+        "at which a program took too long",
+        Follows.FAILED | Follows.AGAIN,
+    )
+    TOOL_FAILED = (
+        "ToolFailed",
+        "the program that extracts blocks failed on this file",
+        "at which a program failed",
+        Follows.FAILED | Follows.AGAIN,
+    )
+    INTERNAL_ERROR = (
+        "InternalError",
+        "exifnorm-pictures itself failed on this file; please report it",
+        "at which exifnorm-pictures itself failed",
+        Follows.FAILED | Follows.AGAIN,
+    )
+
+
+def _words(follows: Follows) -> tuple[str, ...]:
+    return tuple(str.__str__(problem) for problem in Problem if problem.follows & follows)
+
+
+# The words by what follows, for queries, and for problems as a catalogue has them
+NOT_THERE = _words(Follows.NO_FILE)
+GONE = _words(Follows.GONE)
+NO_BYTES = _words(Follows.NO_BYTES)
+NOT_READABLE = _words(Follows.FAILED)
+AGAIN = _words(Follows.AGAIN)
+NEEDED = {problem.value: problem.program for problem in Problem if problem.program}
+TEXTS = {problem.value: problem.text for problem in Problem}
+COUNTED = {problem.value: problem.counted for problem in Problem}
+
+
+class Result(Word):
+    """The result for a kind of block, for two pictures, or for the pictures of a group. It is its word, as JSON has it, and `changed` prints
+    the results in this order: `Result.SAME == "same"`."""
+
+    has_changed: bool | None  # between two states of an archive; None: nobody knows
+    sentence: str  # of `compare`; empty where it counts the fields, and where no two pictures have it
+    is_equal: bool  # whether the metadata are the same, or refused with the same bytes
+    no_picture: bool  # whether neither file is a picture
+
+    SAME = ("same", False, "The same metadata.", True)
+    SAME_FILE = ("the same file", False, "The same file as before, but it isn't wholly read.")  # nothing was written to it
+    SAME_BUT = ("the same but for the fields left out", False, "The same metadata but for the fields left out.")  # by the listing of fields
+    SAME_NUMBERS = ("the same but for how equal numbers are written", False, "The same metadata but for how equal numbers are written.")
+    MOVED_NOTE = (
+        "the same but for a MakerNote that moved",  # and that ExifTool reads as before
+        None,
+        "The same metadata but for a MakerNote that has moved; ExifTool reads the same from both.",
+    )
+    SAME_REPAIRED = ("the same after repair", None, "The same metadata after a repair in memory.")
+    DIFFERENT = ("different", True)
+    DIFFERENT_REPAIRED = ("different after repair", True)
+    ONLY_MAKER_NOTE = ("only MakerNote differs", True, "Only the MakerNote differs.")
+    ONLY_NUMBERS = ("only equal numbers are written otherwise", True)
+    FILE_DIFFERENT = ("not read, different bytes", True, "Different bytes, and the metadata weren't read.")
+    NO_PICTURE_DIFFERENT = ("no picture, different bytes", True, "Different bytes, and the files are no pictures.", False, True)
+    MOVED = ("moved", True)
+    RENUMBERED = ("renumbered", True)  # moved to a name that another picture had, or whose old name another one has
+    MOVED_EDITED = ("moved and edited", True)  # which the digest of its coded picture shows
+    OTHER_PICTURE_ALONE = ("other picture, the same metadata", True, "The same metadata, and another picture.")
+    OTHER_PARTS = ("other parts, the same metadata", True, "The same metadata and picture, and other parts of the files.")
+    OTHER_BYTES = ("other bytes, the same metadata", True, "The same metadata, and other bytes: the pictures weren't read.")
+    OTHER_PICTURE = ("other picture", True, "Another picture; no difference in the metadata is known.")
+    DAMAGED = ("damaged", None, "The second picture is damaged.")  # and no difference of the metadata is known
+    DAMAGED_BEFORE = ("damaged before", None, "The first picture is damaged.")
+    DAMAGED_DIFFERENT = ("damaged and different", True)
+    MISSING_BEFORE = ("missing before", True)
+    MISSING_AFTER = ("missing after", True)
+    UNCLEAR = ("not clear which is its partner", None)  # of several with its name
+    ONLY_REACHED = (
+        "only bytes that a MakerNote can reach differ",
+        None,
+        "No field differs, but bytes outside the fields do, and a MakerNote may use them.",
+    )
+    REFUSED = ("refused", None, "The metadata can't be fully compared: a block breaks the rules of its format, or is compressed.")
+    REFUSED_SAME = (
+        "refused, the same bytes",
+        False,
+        "No difference: a block breaks the rules of its format or is compressed, and has the same bytes in both.",
+        True,
+    )
+    UNREADABLE = ("unreadable", None, "The metadata can't be fully compared: XMP is unreadable.")
+    UNREADABLE_SAME = ("unreadable, the same bytes", False, "No difference: XMP is unreadable, and has the same bytes in both.", True)
+    NOT_KNOWN = ("not known", None, "The metadata can't be fully compared: a file is damaged, and the missing part may have metadata.")
+    NOT_WHOLLY_READ = ("not wholly read", None, "No field differs, but not everything was read.")
+    FILE_SAME = ("not read, the same bytes", False, "The same bytes, and the metadata weren't read.")
+    NO_PICTURE_SAME = ("no picture, the same bytes", False, "The same bytes, but the files are no pictures.", False, True)
+    NOT_READ = ("not read", None, "The metadata can't be compared: a file was not read.")
+    # Of a kind only
+    ABSENT = ("absent", False)
+    LEFT_OUT = ("left out", False)  # no field of the kind counts
+
+    @property
+    def decided(self) -> bool | None:
+        """Whether it says that two pictures are the same; None if it says that nobody knows."""
+        return True if self is Result.SAME else False if self.has_changed else None
+
+    @property
+    def is_open(self) -> bool:
+        """Whether it isn't known if something has changed."""
+        return self.has_changed is None
+
+
+# Errors whose text is for people. `cli` decides by which status they end a command.
+
+
+class Failure(Exception):
+    """An error whose text is for people. It ends the command. Further arguments are lines below the text."""
+
+    problem: ClassVar[Problem | None] = None  # that a picture has at which it happens, if it ends no command
+
+    def __str__(self) -> str:
+        return str(self.args[0]) if self.args else ""
+
+    @property
+    def lines(self) -> tuple[str, ...]:
+        """The lines below the text."""
+        return tuple(map(str, self.args[1:]))
+
+
+class WrongUse(Failure):
+    """The arguments of a command, or a file that they name, are refused."""
 
 
 Members = dict[str, Any]  # of a JSON object
+Key = TypeVar("Key")
+Value = TypeVar("Value")
 
 
 def escaped(text: str) -> str:
@@ -25,6 +263,18 @@ def escaped(text: str) -> str:
     ('a\\nb\\\\c', 'x\\x85', 'x\\u0085\\u202e')
     """
     return text if text.isprintable() and "\\" not in text else _escaped_but(text, "")
+
+
+def grouped(pairs: Iterable[tuple[Key, Value]]) -> dict[Key, list[Value]]:
+    """The values of each key, in their order.
+
+    >>> grouped([("a", 1), ("b", 2), ("a", 3)])
+    {'a': [1, 3], 'b': [2]}
+    """
+    groups: dict[Key, list[Value]] = {}
+    for key, value in pairs:
+        groups.setdefault(key, []).append(value)
+    return groups
 
 
 def quoted(text: str) -> str:

@@ -10,8 +10,8 @@ from collections import Counter
 from typing import Iterable, Mapping, NamedTuple, Sequence
 
 from .found import EXIF, IPTC, NAMES, XMP, NotRead, cut, damage
-from .results import Result
-from .sides import NO_BLOCK, REACHED, Side, Status
+from .texts import Result
+from .records import NO_BLOCK, REACHED, Side, Status
 
 
 class Verdict(NamedTuple):

@@ -4,7 +4,7 @@ from __future__ import annotations
 
 import functools
 
-from .budgets import CACHED
+from .found import CACHED
 
 _SPACES: dict[str, str] = dict(
     line.split()

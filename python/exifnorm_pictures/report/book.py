@@ -6,14 +6,11 @@ from dataclasses import dataclass, field
 from typing import Any, Callable, Iterator, NamedTuple
 
 from ..catalogue.checking import Checked
-from ..model.errors import WrongUse
-from ..model.texts import whole_path
+from ..model.texts import WrongUse, whole_path
 from . import lists
 from .changes import Changes
-from .contents import About
-from .entries import Entry, pages_of
-from .rendering import WITH_PICTURES, Marks, Renderer
-from .searching import SearchIndex
+from .contents import About, Entry, pages_of
+from .rendering import WITH_PICTURES, Marks, Renderer, SearchIndex
 from .small_pictures import InPage, Kept
 
 MOST_OF_A_PAGE = 2_000  # files of a report that is one page

@@ -8,21 +8,16 @@ from typing import Iterable, Iterator, NamedTuple, Sequence, Union
 
 from ..catalogue.store import Known
 from ..comparison.changed import states as changed
-from ..comparison.coded import Coded, sentence_of_coded
-from ..comparison.differing import FieldDifference
-from ..comparison.changed.marking import Marker, Piece, Pieces
-from ..comparison.changed.summary import NOW, MovedFolders, Summary, lacking_of, name_of, sentence
-from ..comparison.changed.pairs import AFTER, BEFORE, heads_of
 from ..comparison.changed.edit_groups import KINDS, Group
-from ..comparison.changed.edit_words import head_of
-from ..comparison.changed.edits import Edit, lists_of, place_of
-from ..comparison.wording import sides, tell_apart
-from ..fields.left_out import lines
+from ..comparison.changed.edits import Edit, head_of, lists_of, place_of
+from ..comparison.changed.pairs import AFTER, BEFORE, heads_of
+from ..comparison.changed.summary import NOW, MovedFolders, Summary, lacking_of, name_of, sentence
+from ..comparison.coded import Coded, sentence_of_coded
+from ..comparison.wording import FieldDifference, Marker, Piece, Pieces, sides, tell_apart
+from ..fields.choosing import lines
 from ..model.records import Stamp, is_as_before
-from ..model.results import Result
-from ..model.texts import escaped, pictures_in_words
-from .contents import About
-from .entries import Entry, chunks
+from ..model.texts import Result, escaped, grouped, pictures_in_words
+from .contents import About, Entry, chunks
 
 _RESULTS = sorted(Result, key=lambda result: result not in (Result.DAMAGED, Result.DAMAGED_DIFFERENT))  # which somebody has to look after
 SHEET = 60  # pictures of a group that are shown beside its edits
@@ -194,9 +189,8 @@ _Side = Union[None, str, Sequence[str]]  # no value, a text, or the members of a
 
 def _rows(changes: Sequence[FieldDifference]) -> list[tuple[object, ...]]:
     """The fields that differ, those with a label first, such as the caption. Those of one label with equal values are one row."""
-    names: dict[tuple[object, ...], list[str]] = {}
-    for one in sorted(changes, key=lambda it: place_of(it)[0]):
-        names.setdefault((place_of(one)[1], *_values(one), one.note), []).append(one.name)
+    every = sorted(changes, key=lambda it: place_of(it)[0])
+    names = grouped(((place_of(it)[1], *_values(it), it.note), it.name) for it in every)
     return [(those, *row[1:]) for row, those in names.items()]
 
 

@@ -2,8 +2,11 @@
 
 from __future__ import annotations
 
+import os.path
+import re
 from dataclasses import dataclass
-from typing import Any, Iterator, Sequence
+from typing import Any, Callable, Iterable, Iterator, NamedTuple, Sequence, TypeVar
+from urllib.parse import quote
 
 from ..catalogue.checking import Checked
 from ..catalogue.store import Catalogue, Run
@@ -11,6 +14,7 @@ from ..fields.choosing import EVERYTHING, Choice
 from ..fields.rules import Rule
 from ..files.session import Session
 from ..model.records import has_short, kind_of
+from ..model.texts import WrongUse
 
 LONGEST = 300  # characters of the name of a field that is counted
 
@@ -90,3 +94,105 @@ def _refused_of_row(row: tuple[Any, ...]) -> Refused:
     has_short(bytes, path)
     has_short(str, name, cause)
     return Refused(path, kind_of(kind), name, cause, place)
+
+
+# The lists of a report as streams of entries, which are put on pages of a limited length.
+
+PAGE = 200  # pictures of a page
+ROWS = 5_000  # rows of its tables, unless one entry alone has more
+CHARACTERS = 100_000  # of its texts, in the same way
+
+
+Made = TypeVar("Made")
+
+
+class Entry(NamedTuple):
+    """Something that a list has: what its template shows, the pictures that it is about, and how many rows it takes."""
+
+    data: Any
+    pictures: tuple[bytes, ...]
+    rows: int = 1
+    is_counted: bool = True  # False: more pictures of an entry that is counted already
+    size: int = 0  # characters of its texts, if they may be long
+
+
+def chunks(pictures: Iterable[Made], length_of: Callable[[Made], int]) -> Iterator[list[Made]]:
+    """As many pictures at a time as a page has; fewer if their names and texts are long."""
+    chunk: list[Made] = []
+    size = 0
+    for picture in pictures:
+        size += length_of(picture)
+        if chunk and (len(chunk) == PAGE or size > CHARACTERS):
+            yield chunk
+            chunk, size = [], length_of(picture)
+        chunk.append(picture)
+    if chunk:
+        yield chunk
+
+
+def pages_of(entries: Iterable[Entry]) -> Iterator[list[Entry]]:
+    """The entries of each page. An entry is on one page.
+
+    >>> [len(it) for it in pages_of([Entry(0, (b"",) * 150), Entry(0, (b"",) * 50), Entry(0, (b"",))])]
+    [2, 1]
+    """
+    page: list[Entry] = []
+    pictures = rows = size = 0
+    for entry in entries:
+        more, longer = max(1, len(entry.pictures)), entry.size + sum(map(len, entry.pictures))
+        if page and (pictures + more > PAGE or rows + entry.rows > ROWS or size + longer > CHARACTERS):
+            yield page
+            page, pictures, rows, size = [], 0, 0, 0
+        pictures, rows, size = pictures + more, rows + entry.rows, size + longer
+        page.append(entry)
+    if page:
+        yield page
+
+
+# Where the name of a picture leads: to its file, or to a page about it on a server.
+
+_SCHEME = re.compile(r"(https?|file)://", re.I)
+PLACES = ("{path}", "{name}")  # in an address: the path below the folder that was indexed, and the name of the file alone
+
+
+def check_address(address: str) -> str:
+    """The same address. Raises `WrongUse`: an address such as `javascript:` is never a link."""
+    if not _SCHEME.match(address):
+        raise WrongUse(f"--link-to: an address begins with https://, http:// or file://, and {address} doesn't")
+    if not any(place in address for place in PLACES):
+        raise WrongUse(f"--link-to: {address} has neither {{path}} nor {{name}}, so all pictures would have one address")
+    return address
+
+
+def below(path: bytes, roots: Sequence[bytes]) -> bytes:
+    """A picture's name, relative to the folder if there is only one.
+
+    >>> below(b"/p/x/y", [b"/p"]), below(b"/p/x", [b"/p", b"/q"])
+    (b'x/y', b'/p/x')
+    """
+    return path.removeprefix(os.path.join(roots[0], b"")) if len(roots) == 1 else path
+
+
+@dataclass
+class Links:
+    """The addresses of pictures."""
+
+    address: str  # empty: those of the files
+    roots: Sequence[bytes]
+    beside: bytes = b""  # the folder in which the report lies
+    up: str = "./"  # leads from a page to that folder
+
+    def of(self, path: bytes) -> str:
+        """The address of a picture, in which each byte that isn't plain is escaped.
+
+        >>> Links("", []).of(b"/p/a b\\xff?.jpg"), Links("https://dam.example/{path}", [b"/p"]).of(b"/p/x/y.jpg")
+        ('file:///p/a%20b%FF%3F.jpg', 'https://dam.example/x/y.jpg')
+        >>> Links("", [], b"/p/").of(b"/p/x/y:.jpg"), Links("", [], b"/p/", "../").of(b"/q/y.jpg")
+        ('./x/y%3A.jpg', 'file:///q/y.jpg')
+        """
+        if not self.address:
+            if self.beside and path.startswith(self.beside):  # they may be moved or sent together
+                return self.up + quote(path[len(self.beside) :])
+            return f"file://{quote(path)}"
+        name = quote(below(path, self.roots).lstrip(b"/"))
+        return self.address.replace("{path}", name).replace("{name}", quote(os.path.basename(path)))

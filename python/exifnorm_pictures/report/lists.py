@@ -12,24 +12,89 @@ from itertools import groupby
 from typing import Iterator, NamedTuple, Sequence
 
 from ..catalogue.checking import Broken, Checked
-from ..catalogue.store import PICTURE_COLUMNS
-from ..catalogue.texts import texts_of
-from ..comparison.same import groups
-from ..comparison.changed.states import Equal
-from ..catalogue.conflicts import Conflict
+from ..catalogue.conflicts import Conflict, conflicts
+from ..catalogue.store import PICTURE_COLUMNS, Catalogue
+from ..catalogue.texts import PictureTexts, texts_of
 from ..comparison.changed.edits import digest
-from ..comparison.same.group import Group
-from ..comparison.same.group_sentence import sentence_of
-from ..comparison.same.keeping import Keep, keeping
-from ..fields.labels import LABEL_WORDS
+from ..comparison.changed.states import Equal
+from ..comparison.same import groups
+from ..comparison.same.group import Group, Keep, keeping, sentence_of
+from ..fields.labels import COMMENT, LABEL_WORDS
 from ..fields.rules import Rule
-from ..model.found import each_kind
-from ..model.problems import NOT_THERE, Problem
-from ..model.texts import kind_of_part
-from ..model.records import PictureRecord, has, has_short, picture_of_row
-from .contents import About, Refused, chosen, refused, shortened
-from .contradictions import Contradictions, checked, texts_by_standard
-from .entries import Entry, chunks
+from ..model.found import STANDARDS, each_kind
+from ..model.records import BlockRecord, PictureRecord, has, has_short, picture_of_row
+from ..model.texts import NOT_THERE, Problem, grouped, kind_of_part
+from .contents import About, Entry, Refused, chosen, chunks, refused, shortened
+
+# The pictures of a catalogue whose Exif, IPTC and XMP contradict each other, for the report.
+#
+# The texts are those of the catalogue, which keeps all but enormous ones.
+
+_COMPARED = tuple(it for it in LABEL_WORDS if it != COMMENT)
+
+
+class CheckedPicture(NamedTuple):
+    """A picture with metadata in two standards at least, and its differences."""
+
+    path: bytes
+    conflicts: list[Conflict]
+    is_whole: bool  # whether all of its texts were compared
+    has_two: bool = True  # standards, as far as its file goes
+
+    @property
+    def real(self) -> list[Conflict]:
+        """Its contradictions."""
+        return [it for it in self.conflicts if it.is_real]
+
+
+@dataclass
+class Contradictions:
+    """What is counted of them."""
+
+    pictures: int = 0  # with metadata in two standards at least
+    real: int = 0
+    minor: int = 0  # that differ only in form
+    unread: int = 0  # of which a text or a block was not compared
+    labels: "Counter[str]" = field(default_factory=Counter)
+
+    def add(self, checked: CheckedPicture) -> None:
+        """Counts a picture."""
+        real = checked.real
+        self.pictures += checked.has_two
+        self.real += bool(real)
+        self.minor += bool(checked.conflicts) and not real
+        self.unread += not checked.is_whole
+        self.labels.update([one.label for one in real])
+
+
+def checked(catalogue: Catalogue, pictures: Iterator[PictureRecord]) -> Iterator[CheckedPicture]:
+    """The pictures with metadata in two standards at least, and those that may have them behind the end of a file that is cut off."""
+    for picture in pictures:
+        if picture.problem or sum(octets != "" for octets in picture.octets) < 2:
+            if picture.problem is None and _is_cut(picture):
+                yield CheckedPicture(picture.path, [], False, False)
+            continue
+        blocks = catalogue.blocks_with_fields(picture)
+        texts = texts_of(blocks, _COMPARED)
+        yield _checked(picture, [block for block, _ in blocks], texts)
+
+
+def _checked(picture: PictureRecord, blocks: list[BlockRecord], texts: PictureTexts) -> CheckedPicture:
+    known = [one for one in conflicts(texts.texts, texts.located) if not one.is_alike and one.label not in texts.missing]
+    is_whole = not (texts.missing or _is_cut(picture)) and all(one.is_accepted or one.repair for one in blocks)
+    return CheckedPicture(picture.path, known, is_whole)
+
+
+def _is_cut(picture: PictureRecord) -> bool:
+    """Whether a file ends so that blocks may be missing."""
+    return bool(picture.damage) and picture.not_read != ""
+
+
+def texts_by_standard(conflict: Conflict) -> dict[str, str]:
+    """The texts by standard."""
+    by_standard = grouped((text.standard, text.line) for text in conflict.texts)
+    return {standard: "; ".join(by_standard[standard]) for standard in STANDARDS if standard in by_standard}
+
 
 MOST_PARTS = 20  # parts that were not read, in the table of the most frequent ones
 
@@ -66,8 +131,7 @@ def counts_of(about: About) -> Counts:
     counts.causes.update(dict(about.catalogue.rows(query, (), _counted_word)))
     counts.groups = groups.totals(about.catalogue, only=about.table(), choice=about.choice)
     source = f"FROM not_read JOIN pictures ON pictures.id = picture WHERE {chosen(about)}"
-    with about.catalogue.guarded():
-        about.catalogue.base.create_function("kind_of", 1, kind_of_part, deterministic=True)
+    about.catalogue.base.create_function("kind_of", 1, kind_of_part, deterministic=True)
     kinds = f"SELECT kind_of(what) AS kind, count(DISTINCT picture) {source} GROUP BY kind"
     query = f"{kinds} ORDER BY 2 DESC, kind LIMIT {MOST_PARTS}"
     counts.parts = list(about.catalogue.rows(query, (), _counted_word))
@@ -260,8 +324,7 @@ class Unread(NamedTuple):
 def damaged(about: About) -> Iterator[Entry]:
     """The pictures that are cut off or damaged."""
     rows = about.catalogue.rows(f"SELECT path, damage FROM pictures WHERE damage != ''{_and_chosen(about)} ORDER BY path", (), _two_words)
-    for path, damage in rows:
-        yield Entry(Unread(path, [damage]), (path,), 1, True, len(damage))
+    yield from (Entry(Unread(path, [damage]), (path,), 1, True, len(damage)) for path, damage in rows)
 
 
 def unread(about: About) -> Iterator[Entry]:
@@ -299,8 +362,7 @@ class Folder(NamedTuple):
 def folders(about: About) -> Iterator[Entry]:
     """Each folder with its pictures, in the order of their paths."""
     catalogue = about.catalogue
-    with catalogue.guarded():
-        catalogue.base.create_function("folder_of", 1, os.path.dirname, deterministic=True)
+    catalogue.base.create_function("folder_of", 1, os.path.dirname, deterministic=True)
     is_shown = f"NOT {_IS_GONE} AND problem IS NOT '{Problem.NO_PICTURE}'{_and_chosen(about)}"
     query = f"SELECT path, {_STATE} FROM pictures WHERE {is_shown} ORDER BY folder_of(path), path"
     rows = catalogue.rows(query, (), _two_words)

@@ -15,13 +15,10 @@ from ..extract.formats.streams import digest_of_file
 from ..files.opening import held
 from ..files.session import Session
 from ..judge import judge
-from ..model.budgets import WHOLE_FILE, TooMuch
+from ..model.found import EXIF, NAMES, OWN, UNREAD_NOTES, WHOLE_FILE, Blocks, TooMuch, damage as faults_in
 from ..model import rest
-from ..model.found import EXIF, NAMES, OWN, UNREAD_NOTES, Blocks, damage as faults_in
-from ..model.problems import NO_BYTES, Problem
-from ..model.records import RACY, BlockRecord, PictureRecord, Stamp
-from ..model.sides import Status
-from ..model.texts import reason
+from ..model.texts import NO_BYTES, Problem, reason
+from ..model.records import RACY, BlockRecord, PictureRecord, Stamp, Status
 from .batches import How
 from .walk import FoundFile
 
@@ -200,5 +197,4 @@ def _is_racy(times: Sequence[int], began: int) -> bool:
 def in_this_process(work: Iterable[FoundFile], how: How) -> Iterator[PictureRecord]:
     """The results for these files, in their order."""
     with Session(how.seconds, how.debug, how.room or None, how.programs) as session:
-        for file in work:
-            yield look(file, how, session)
+        yield from (look(file, how, session) for file in work)

@@ -9,9 +9,8 @@ import sqlite3
 from typing import Any, Callable, Iterator, Sequence
 
 from ..catalogue.store import Catalogue
-from ..model.problems import Problem
 from ..model.records import PictureRecord
-from ..model.texts import whole_path
+from ..model.texts import Problem, grouped, whole_path
 
 Key = tuple[object, ...]
 _MARKS = "size, modified, inode, sha256, coded_picture, not_read, exif_octets, iptc_octets, xmp_octets"
@@ -157,11 +156,7 @@ def moved_together(went: dict[bytes, bytes]) -> dict[tuple[bytes, bytes], list[b
     >>> moved_together({b"/a/x/1.jpg": b"/b/x/1.jpg", b"/a/x/2.jpg": b"/b/x/2.jpg", b"/a/3.jpg": b"/c/4.jpg"})
     {(b'/a/x', b'/b/x'): [b'/a/x/1.jpg', b'/a/x/2.jpg']}
     """
-    together: dict[tuple[bytes, bytes], list[bytes]] = {}
-    for old, new in went.items():
-        folders = moved_folders(old, new)
-        if folders:
-            together.setdefault(folders, []).append(old)
+    together = grouped((folders, old) for old, new in went.items() if (folders := moved_folders(old, new)))
     return {deepest(key, functools.reduce(shared_folder, paths, None) or b""): paths for key, paths in together.items() if len(paths) > 1}
 
 
@@ -200,3 +195,35 @@ def moved_folders(old: bytes, new: bytes) -> tuple[bytes, bytes] | None:
 
 _REMOUNTED = """SELECT old.path, new.path FROM pictures AS new JOIN pictures AS old USING (inode, size, modified, exif_octets, iptc_octets, xmp_octets)
     WHERE new.run = ? AND new.problem IS NULL AND old.root = ? AND old.problem IS NULL AND old.id != new.id ORDER BY old.path"""
+
+
+# The paths that a run has seen of an archive, in little memory: in a file once there are many.
+
+
+class Paths:
+    """A set of paths. SQLite writes it to a temporary file when it is larger than a cache, and removes the file.
+
+    >>> paths = Paths()
+    >>> paths.add(b"/a"), paths.add(b"/a"), b"/a" in paths, b"/b" in paths
+    (True, False, True, False)
+    """
+
+    def __init__(self) -> None:
+        self._opened: sqlite3.Connection | None = None  # most runs have no path to keep
+
+    @property
+    def _base(self) -> sqlite3.Connection:
+        if self._opened is None:
+            self._opened = sqlite3.connect("", isolation_level=None)
+            self._opened.execute("PRAGMA journal_mode = OFF")
+            self._opened.execute("CREATE TABLE paths (path BLOB PRIMARY KEY) WITHOUT ROWID")
+        return self._opened
+
+    def add(self, path: bytes) -> bool:
+        """Adds a path; whether it wasn't there."""
+        return self._base.execute("INSERT OR IGNORE INTO paths VALUES (?)", (path,)).rowcount > 0
+
+    def __contains__(self, path: bytes) -> bool:
+        if self._opened is None:
+            return False
+        return self._base.execute("SELECT 1 FROM paths WHERE path = ?", (path,)).fetchone() is not None

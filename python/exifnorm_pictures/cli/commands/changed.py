@@ -21,22 +21,31 @@ from ...comparison.changed.summary import Summary
 from ...comparison.changed.undo import arguments
 from ...comparison.coded import Coded, sentence_of_coded
 from ...comparison.wording import NONE, line_of, tell_apart
-from ...fields.left_out import lines as lines_of_choice
+from ...fields.choosing import lines as lines_of_choice
 from ...fields.listing import MAKER_NOTE
-from ...fields.plain_names import group_name
+from ...fields.names import group_name
 from ...files import atomic
-from ...model.errors import WrongUse
-from ...model.results import Result
-from ...model.texts import pictures_in_words, shown_path
+from ...model.texts import Result, WrongUse, pictures_in_words, shown_path
 from .. import changed_tables
 from ..choice import choice_of, listings_of, note_absent, refuse_unknown
-from ..exit_codes import UNKNOWN, status_of_results
+from ..output import (
+    MOST_NAMED,
+    UNKNOWN,
+    Fields,
+    Output,
+    Run,
+    group_of,
+    groups_of,
+    print_line,
+    print_lines,
+    say_notes,
+    status_of_results,
+    table_of,
+)
 from ..looking import catalogue_of, files_of, is_of_pictures
 from ..names import each_of_list, refuse_pictures, say_unknown
-from ..options import Fields, Output, Run, group_of, groups_of
-from ..output import MOST_NAMED, print_line, print_lines, say_notes, table_of
 from ..parser import refuse
-from ..summary import Style, lines
+from ..changed_tables import Style, lines
 
 
 def run(arguments: argparse.Namespace) -> int:

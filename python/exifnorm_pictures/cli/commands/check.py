@@ -7,29 +7,38 @@ import os
 from collections import Counter
 from dataclasses import dataclass, field
 from itertools import groupby
-from typing import Iterator, Sequence, TYPE_CHECKING
+from typing import Iterator, Sequence
 
 from ...catalogue.checking import Broken, Checked
 from ...catalogue.conflicts import Conflict, ConflictKind, conflicts
 from ...comparison.wording import tell_apart
 from ...fields.labels import DAMAGE
 from ...fields.rules import AGREE, COMPARED, Rule, WrongRules, rules_of
-from ...model.errors import WrongUse
 from ...model.found import SIDECAR, STANDARDS, damage
-from ...model.texts import Members, escaped, in_words, path_members, pictures_in_words, shown_path
+from ...model.texts import Members, WrongUse, escaped, grouped, in_words, path_members, pictures_in_words, shown_path
 from ...picture import Picture
-from ..exit_codes import DIFFERENCE, SUCCESS, UNKNOWN
 from ..labelled import is_open, members, not_read, of_catalogue, origins, pictures, refused, text_members, together
 from ..looking import Preparing, catalogue_of_pictures, note_sidecars, refuse_for_catalogues
-from ..names import named
-from ..not_read import picture_cut, unread
-from ..objects import print_object
-from ..options import Files, Output, Run, groups_of
-from ..output import named as in_lines, print_line, print_lines, say_notes, table_of
-from ..word_files import text_of_file, words_of_file
-
-if TYPE_CHECKING:
-    from ..tables import Cell, Table
+from ..names import named, text_of_file, words_of_file
+from ..output import (
+    DIFFERENCE,
+    SUCCESS,
+    UNKNOWN,
+    Cell,
+    Files,
+    Output,
+    Run,
+    Table,
+    groups_of,
+    named as in_lines,
+    picture_cut,
+    print_line,
+    print_lines,
+    print_object,
+    say_notes,
+    table_of,
+    unread,
+)
 
 
 def run(arguments: argparse.Namespace) -> int:
@@ -211,9 +220,7 @@ def _unread(picture: Picture) -> list[str]:
 
 
 def _texts(conflict: Conflict) -> list[Cell]:
-    texts: dict[str, list[str]] = {}
-    for text in conflict.texts:
-        texts.setdefault(text.standard, []).append(text.line + f" ({text.block})" * bool(text.block))
+    texts = grouped((it.standard, it.line + f" ({it.block})" * bool(it.block)) for it in conflict.texts)
     return ["; ".join(texts.get(standard, [])) for standard in STANDARDS]
 
 

@@ -5,34 +5,38 @@ from __future__ import annotations
 import argparse
 import os
 import shutil
-from typing import TYPE_CHECKING, Iterator, Sequence
+from typing import Iterator, Sequence
 
 from ...comparison.coded import Coded, coded_result
 from ...comparison.two_pictures import MORE, ComparedPair, FieldRow, compare, read, rows_of, with_position
 from ...comparison.wording import NONE, tag_of
-from ...fields.block_fields import fields_of
-from ...fields.choosing import Choice
+from ...fields.choosing import Choice, lines, members_of
 from ...fields.field import Field
-from ...fields.left_out import lines, members_of
+from ...fields.packing import fields_of
 from ...fields.typed import together
 from ...files.opening import held
-from ...model.budgets import COMPARED_FIELDS
-from ...model.found import XMP_FILE, other_name
-from ...model.problems import NO_BYTES
+from ...model.found import COMPARED_FIELDS, XMP_FILE, other_name
 from ...model.records import BlockRecord, PictureRecord
-from ...model.results import Result
-from ...model.texts import Members, escaped, shown_path
+from ...model.texts import NO_BYTES, Members, Result, escaped, shown_path
 from ...scan.batches import How
 from ..choice import choice_of, refuse_unknown
-from ..columns import columns
-from ..exit_codes import SUCCESS, UNKNOWN, status_of_results
 from ..names import refuse_folders
-from ..objects import picture_object, print_object, unread_members
-from ..options import Fields, group_of, groups_of
-from ..output import note_sidecar, print_lines, table_of
-
-if TYPE_CHECKING:
-    from ..tables import Table
+from ..output import (
+    SUCCESS,
+    UNKNOWN,
+    Fields,
+    Table,
+    columns,
+    group_of,
+    groups_of,
+    note_sidecar,
+    picture_object,
+    print_lines,
+    print_object,
+    status_of_results,
+    table_of,
+    unread_members,
+)
 
 
 def run(arguments: argparse.Namespace) -> int:

@@ -6,22 +6,18 @@ import argparse
 import os
 import sys
 from datetime import datetime, timezone
+from typing import Iterator, Mapping
 
 import exifnorm
 
 from ...catalogue.store import BESIDE, Catalogue
-from ...export.rows import Export
-from ...export.tables import VERSION, Tables, head_is_ours, tables
-from ...fields.left_out import of_maker_notes
+from ...export.rows import VERSION, Export, Tables, head_is_ours, tables
+from ...fields.choosing import of_maker_notes
 from ...files import atomic
-from ...model.errors import WrongUse
-from ...model.texts import in_words, path_members, shown_path
-from ..exit_codes import SUCCESS
+from ...model.texts import Members, WrongUse, in_words, path_members, shown_path
 from ..looking import files_of, opened
 from ..names import chosen_in, say_unknown
-from ..objects import print_object
-from ..options import groups_of
-from ..output import print_line
+from ..output import SUCCESS, answer, groups_of
 
 
 def run(arguments: argparse.Namespace) -> int:
@@ -39,21 +35,23 @@ def run(arguments: argparse.Namespace) -> int:
         atomic.put_copy(arguments.file, file, head_is_ours, tuple(files_of(name)), BESIDE)
         say_unknown(catalogue.not_there(only))
     counts = {name: written.counts.get(name, 0) for name in "pictures fields captions conflicts groups".split()}
-    if output.json:
-        left_out = {"texts_not_kept": work.missing, "absent_groups": work.groups.absent, "maker_notes_not_read": work.maker_notes}
-        print_object("export", "summary", {**path_members(os.fsencode(arguments.file)), "rows": counts, **left_out})
-    else:
-        rows = ", ".join(f"{in_words(count, 'row')} of {name}" for name, count in counts.items())
-        print_line(f"{shown_path(arguments.file)}: {rows}")
-        if work.missing:
-            which = "picture has" if work.missing == 1 else "pictures have"
-            print_line(f"{work.missing:,} {which} a text that is NULL: it is too long for the catalogue")
-        if work.maker_notes:
-            print_line(of_maker_notes(work.maker_notes))
-        if work.groups.absent:
-            which = "group is left out, because its" if work.groups.absent == 1 else "groups are left out, because their"
-            print_line(f"{work.groups.absent:,} {which} files are gone or have changed since they were indexed")
+    left_out = {"texts_not_kept": work.missing, "absent_groups": work.groups.absent, "maker_notes_not_read": work.maker_notes}
+    about: Members = {**path_members(os.fsencode(arguments.file)), "rows": counts, **left_out}
+    answer(output, "export", "summary", about, _lines(arguments.file, counts, work))
     return SUCCESS
+
+
+def _lines(file: str, counts: Mapping[str, int], work: Export) -> Iterator[str]:
+    rows = ", ".join(f"{in_words(count, 'row')} of {name}" for name, count in counts.items())
+    yield f"{shown_path(file)}: {rows}"
+    if work.missing:
+        which = "picture has" if work.missing == 1 else "pictures have"
+        yield f"{work.missing:,} {which} a text that is NULL: it is too long for the catalogue"
+    if work.maker_notes:
+        yield of_maker_notes(work.maker_notes)
+    if work.groups.absent:
+        which = "group is left out, because its" if work.groups.absent == 1 else "groups are left out, because their"
+        yield f"{work.groups.absent:,} {which} files are gone or have changed since they were indexed"
 
 
 def _refuse_table(name: str) -> None:

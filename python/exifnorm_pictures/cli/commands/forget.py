@@ -7,12 +7,9 @@ import os
 
 from ...catalogue.store import Catalogue, roll_back
 from ...model.texts import path_members, pictures_in_words, shown_path
-from ..exit_codes import SUCCESS
 from ..looking import written_files_of
 from ..names import named, settle_first
-from ..objects import print_object
-from ..options import Files, Output, group_of
-from ..output import print_line
+from ..output import SUCCESS, Files, Output, answer, group_of
 
 
 def run(arguments: argparse.Namespace) -> int:
@@ -25,10 +22,8 @@ def run(arguments: argparse.Namespace) -> int:
         Catalogue(file).close()  # it is one; a missing one isn't made
     for folder in names:
         count = sum(_forgotten(file, os.path.abspath(folder)) for file in files)
-        if group_of(Output, arguments).json:
-            print_object("forget", "folder", {**path_members(folder), "forgotten": count})
-        else:
-            print_line(f"{shown_path(folder)}: {pictures_in_words(count)} forgotten")
+        line = f"{shown_path(folder)}: {pictures_in_words(count)} forgotten"
+        answer(group_of(Output, arguments), "forget", "folder", {**path_members(folder), "forgotten": count}, [line])
     return SUCCESS
 
 

@@ -11,18 +11,27 @@ from typing import Iterable, Iterator, Sequence
 from ...catalogue import shards
 from ...catalogue.nights import copy_over
 from ...catalogue.store import Catalogue
-from ...model.errors import WrongUse
-from ...model.problems import NOT_READABLE
-from ...model.texts import escaped, in_words, kind_of_part, moved_line, pictures_in_words, shown_path
-from ...scan.excluded import Excluded
+from ...model.texts import NOT_READABLE, WrongUse, escaped, in_words, kind_of_part, moved_line, pictures_in_words, shown_path
 from ...scan.index import DAMAGED, OF_LAST_RUN, OF_XMP, REFUSED, IndexOptions, index, lacking, number_of
 from ...scan.parts import Outcome, Plan, indexed, plan, together
-from .. import objects
-from ..exit_codes import SUCCESS, UNKNOWN
+from ...scan.walk import Excluded
 from ..looking import how_of, xmp_files_alone
 from ..names import is_catalogue, named, settle_first, with_first
-from ..options import Files, Output, Run, groups_of
-from ..output import counted, print_line, print_lines, record_lines, say_notes
+from ..output import (
+    SUCCESS,
+    UNKNOWN,
+    Files,
+    Output,
+    Run,
+    answer,
+    counted,
+    groups_of,
+    print_line,
+    print_lines,
+    record_lines,
+    record_objects,
+    say_notes,
+)
 
 
 def going_on(run: Run, catalogue: Catalogue) -> Run:
@@ -89,7 +98,7 @@ def _keep_old(catalogue: Catalogue, old: str, run: Run) -> None:
 
 def printing_options(run: Run, output: Output, names: Sequence[bytes]) -> IndexOptions:
     """The options of a run, with the lines that are printed about pictures."""
-    lines = objects.record_lines if output.json else None if run.quiet else record_lines
+    lines = record_objects if output.json else None if run.quiet else record_lines
     moved = None if output.json or run.quiet else moved_line
     how = how_of(run, run.session.room, lines)
     return IndexOptions(names, run.again, run.quiet, how, print_line, moved_line=moved, lines=lines or record_lines)
@@ -183,15 +192,12 @@ def _on_cluster(where: str, names: Sequence[bytes], run: Run, output: Output) ->
 def _print_problem(output: Output, outcome: Outcome) -> None:
     """Why a part wasn't looked at."""
     if outcome.problem:
-        print_lines((objects.record_lines if output.json else record_lines)(outcome.problem))
+        print_lines((record_objects if output.json else record_lines)(outcome.problem))
 
 
 def _print_end(output: Output, counts: "Counter[str]", damaged: int, before: Iterable[str], after: Iterable[str]) -> int:
     """Prints the counts, and some lines around them. Returns the status."""
-    if output.json:
-        objects.print_object("index", "summary", {"counts": dict(counts), "damaged": damaged})
-    else:
-        print_lines([*before, counted(counts, damaged), *after])
+    answer(output, "index", "summary", {"counts": dict(counts), "damaged": damaged}, [*before, counted(counts, damaged), *after])
     return UNKNOWN if any(counts[it] for it in NOT_READABLE) else SUCCESS
 
 

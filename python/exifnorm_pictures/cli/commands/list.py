@@ -13,19 +13,16 @@ from datetime import datetime, timezone
 from typing import NamedTuple, Sequence
 
 from ...catalogue.asking import Answer, Fitting, Texts, Unread
-from ...catalogue.field_texts import ambiguous_in
+from ...catalogue.kept_texts import ambiguous_in
 from ...fields.choosing import stands_for
 from ...fields.labels import DAMAGE, POSITION
 from ...fields.places import place_of
 from ...fields.questions import Not, Question, With, WrongQuestion, all_of, given_label, labels_of, question_of
 from ...model.texts import Members, escaped, path_members, pictures_in_words, shown_path
 from .. import listed_texts
-from ..exit_codes import SUCCESS, UNKNOWN
+from ..output import SUCCESS, UNKNOWN, Output, groups_of, named, print_line, print_lines, print_object, say_notes, table_of
 from ..looking import Preparing, catalogue_for_questions, note_sidecars, refuse_for_catalogues
-from ..objects import print_object
-from ..options import Output, groups_of
-from ..output import named, print_line, print_lines, say_notes, table_of
-from ..word_files import words_of_file
+from ..names import words_of_file
 
 _WHAT_CHANGED = (
     "This catalogue doesn't know what changed in them. Compare it with an older one, as index --keep-old and nightly keep it:"

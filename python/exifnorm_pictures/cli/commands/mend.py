@@ -6,25 +6,19 @@ import argparse
 import os
 import shlex
 from collections import Counter
-from typing import Iterator, Sequence
+from typing import Iterator
 
 from ...extract import programs
 from ...files import atomic
 from ...files.opening import held
 from ...files.session import Session
 from ...model import steps
-from ...model.budgets import TooMuch
-from ...model.errors import WrongUse
-from ...model.problems import Problem
-from ...model.texts import Members, escaped, in_words, pictures_in_words, shown_path
+from ...model.found import TooMuch
+from ...model.texts import Members, Problem, WrongUse, escaped, in_words, pictures_in_words, shown_path
 from ...refusals import mend
-from ..exit_codes import DIFFERENCE, FAILURE, SUCCESS, UNKNOWN
 from ..looking import opened
 from ..names import chosen_paths, each_of_list, is_catalogue
-from ..not_read import REMEDY
-from ..objects import picture_object, print_object
-from ..output import print_line, print_lines
-from ..options import Files, Output, Run, groups_of
+from ..output import DIFFERENCE, FAILURE, REMEDY, SUCCESS, UNKNOWN, Files, Output, Run, answer, groups_of, picture_object
 from ..parser import refuse
 
 
@@ -46,10 +40,8 @@ def _mended(files: Files, run: Run, output: Output, lossless: bool) -> int:
         worst, damaged = max(worst, status), damaged + is_damaged
         counts[result] += 1
     if folder is not None:
-        if output.json:
-            print_object("mend", "summary", {"counts": {it: counts[it] for it in COUNTED}, "damaged": damaged})
-        else:
-            print_line(_counted(counts) + f"; {damaged:,} cut off or damaged, which no copy mends" * bool(damaged))
+        line = _counted(counts) + f"; {damaged:,} cut off or damaged, which no copy mends" * bool(damaged)
+        answer(output, "mend", "summary", {"counts": {it: counts[it] for it in COUNTED}, "damaged": damaged}, [line])
     return worst
 
 
@@ -78,9 +70,9 @@ def _mend_one(
         names.update({programs.Missing: Problem.NEEDS_EXIFTOOL, mend.NeedsExifTool: Problem.NEEDS_EXIFTOOL})
         problem = names.get(type(error), Problem.TOOL_FAILED)
         line = f"{shown_path(picture)}: {atomic.not_written(shown_path(out), error)}"
-        _print(output, [line], _mended_members(picture, None, problem, str(error)))
+        answer(output, "mend", "picture", _mended_members(picture, None, problem, str(error)), [line])
         return FAILURE if isinstance(error, mend.NotWritten) else UNKNOWN, "not mended", False
-    _print(output, _mended_lines(picture, mended), _mended_members(picture, mended))
+    answer(output, "mend", "picture", _mended_members(picture, mended), _mended_lines(picture, mended))
     is_damaged = bool(mended.damage or mended.cut_off)
     if not mended.is_written:
         return UNKNOWN, "not mended", is_damaged
@@ -167,13 +159,6 @@ def _mended_lines(picture: bytes, mended: mend.Mended) -> list[str]:
         lines.append(f"  {in_words(len(mended.lost), 'printed value')} lost or changed")
         lines += [f"  - {it}" for it in mended.lost] + [f"  + {it}" for it in mended.gained]
     return lines
-
-
-def _print(output: Output, lines: Sequence[str], members: Members) -> None:
-    if output.json:
-        print_object("mend", "picture", members)
-    else:
-        print_lines(lines)
 
 
 def _mended_members(picture: bytes, result: mend.Mended | None, problem: str = "", detail: str = "") -> Members:

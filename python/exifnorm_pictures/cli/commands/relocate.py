@@ -5,16 +5,13 @@ from __future__ import annotations
 import argparse
 import os
 from collections import Counter
+from typing import Iterator
 
 from ...catalogue import shards
 from ...catalogue.store import Catalogue, NoCatalogue, roll_back
-from ...model.errors import WrongUse
-from ...model.texts import path_members, pictures_in_words, shown_path
+from ...model.texts import Members, WrongUse, path_members, pictures_in_words, shown_path
 from ...scan.relocating import ABSENT, AS_BEFORE, CHANGED, relocated
-from ..exit_codes import DIFFERENCE, SUCCESS
-from ..objects import print_object
-from ..options import Output, group_of
-from ..output import print_line
+from ..output import DIFFERENCE, SUCCESS, Output, answer, group_of
 
 
 def run(arguments: argparse.Namespace) -> int:
@@ -35,18 +32,15 @@ def run(arguments: argparse.Namespace) -> int:
             raise WrongUse(f"{name} has no picture below {shown_path(old)}")
     with Catalogue(name, make=True) as catalogue:
         counts = relocated(catalogue, os.path.abspath(old), os.path.abspath(new))
-    _print(group_of(Output, arguments), old, new, counts)
+    numbers = {"as_before": counts[AS_BEFORE], "changed": counts[CHANGED], "absent": counts[ABSENT]}
+    about: Members = {"old": path_members(old), "new": path_members(new), **numbers}
+    answer(group_of(Output, arguments), "relocate", "summary", about, _lines(old, new, counts))
     return DIFFERENCE if counts[CHANGED] or counts[ABSENT] else SUCCESS
 
 
-def _print(output: Output, old: bytes, new: bytes, counts: "Counter[str]") -> None:
-    numbers = {"as_before": counts[AS_BEFORE], "changed": counts[CHANGED], "absent": counts[ABSENT]}
-    if output.json:
-        print_object("relocate", "summary", {"old": path_members(old), "new": path_members(new), **numbers})
-        return
-    total = sum(numbers.values())
-    print_line(f"{shown_path(old)}: {pictures_in_words(total)} now below {shown_path(new)}")
+def _lines(old: bytes, new: bytes, counts: "Counter[str]") -> Iterator[str]:
+    yield f"{shown_path(old)}: {pictures_in_words(counts[AS_BEFORE] + counts[CHANGED] + counts[ABSENT])} now below {shown_path(new)}"
     if counts[CHANGED]:
-        print_line(f"{counts[CHANGED]:,} with another size or modification time: the next index reads them again")
+        yield f"{counts[CHANGED]:,} with another size or modification time: the next index reads them again"
     if counts[ABSENT]:
-        print_line(f"{counts[ABSENT]:,} not there: the next index misses them")
+        yield f"{counts[ABSENT]:,} not there: the next index misses them"

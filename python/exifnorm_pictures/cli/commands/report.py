@@ -6,21 +6,17 @@ import argparse
 import contextlib
 import os
 import sys
-from typing import Sequence, TYPE_CHECKING
+from typing import Sequence
 
 from ...files import atomic, folders
-from ...report import contents, links
+from ...report import contents
 from ...report.rendering import check
 from ...scan.progress import Progress
 from ..choice import choice_for
-from ..exit_codes import SUCCESS
+from ..output import SUCCESS, Fields, group_of, groups_of
 from ..looking import files_of, opened
 from ..names import chosen_paths, say_unknown
-from ..options import Fields, group_of, groups_of
 from .check import rules_of_file
-
-if TYPE_CHECKING:
-    from ...report.contents import About
 
 
 def run(arguments: argparse.Namespace) -> int:
@@ -28,7 +24,7 @@ def run(arguments: argparse.Namespace) -> int:
     files, run, _ = groups_of(arguments)
     name = arguments.source
     check()
-    address = links.check(arguments.link_to) if arguments.link_to else ""
+    address = contents.check_address(arguments.link_to) if arguments.link_to else ""
     rules = rules_of_file(arguments.rules) if arguments.rules else []
     chosen = chosen_paths(files)
     with contextlib.ExitStack() as open_:
@@ -45,7 +41,7 @@ def run(arguments: argparse.Namespace) -> int:
 MARK = "exifnorm-report"  # the list of the files of a folder, by which it is known to be a report
 
 
-def write_report(about: About, name: str, kept: Sequence[str]) -> None:
+def write_report(about: contents.About, name: str, kept: Sequence[str]) -> None:
     """Writes one page, or a folder of pages if the name ends with a slash or is a folder's. It may replace an earlier report, and nothing else;
     least of all one of the catalogues `kept`, whose rights it gets. Raises `NotReplaced`, and `TooLarge` for one page."""
     out = os.fsencode(name)
@@ -62,7 +58,7 @@ def write_report(about: About, name: str, kept: Sequence[str]) -> None:
         raise atomic.NotReplaced(atomic.not_written(name, error)) from None
 
 
-def _shown(about: About, folder: folders.NewFolder | None) -> str:
+def _shown(about: contents.About, folder: folders.NewFolder | None) -> str:
     """The first page, after all others were written in a folder."""
     from ...report import book as books, small_pictures  # which take long to import
 

@@ -9,32 +9,37 @@ from collections import Counter
 from typing import TYPE_CHECKING, Iterator, NamedTuple, Sequence
 
 from ...catalogue.store import Catalogue
-from ...comparison.same.group import Basis, Group, Link
-from ...comparison.same.group_sentence import sentence_of
+from ...comparison.same.group import NO_PICTURE, NOT_KNOWN, Basis, Group, Keep, damaged, keeping, sentence_of
 from ...comparison.same.groups import Groups, after_repair, but_for_notes, but_for_parts, coded_pictures, left_out, of_notes, whole_files
-from ...comparison.same.keeping import NO_PICTURE, NOT_KNOWN, Keep, damaged, keeping
-from ...fields.choosing import Choice
-from ...fields.folding import folded
-from ...fields.left_out import BY_LISTING, members_of, of_labels
-from ...fields.questions import given_label
-from ...model.results import Result
-from ...model.errors import WrongUse
+from ...fields.choosing import BY_LISTING, Choice, members_of, of_labels
+from ...fields.questions import folded, given_label
 from ...model.found import KINDS
 from ...model.records import PictureRecord
-from ...model.texts import Members, in_words, path_members, pictures_in_words, shown_path
+from ...model.texts import Members, Result, WrongUse, grouped, in_words, path_members, pictures_in_words, shown_path
 from .. import listed_texts
 from ..choice import choice_for
-from ..exit_codes import UNKNOWN, status_of_results
+from ..grammar import FILE, PIXELS
 from ..looking import Preparing, keep_texts, opened
 from ..names import chosen_in, say_unknown
-from ..objects import line_of, print_object
-from ..options import Fields, Output, Run, group_of, groups_of
-from ..output import print_line, print_lines, say_notes, table_of
-from ..grammar import FILE, PIXELS
+from ..output import (
+    UNKNOWN,
+    Fields,
+    Output,
+    Run,
+    Table,
+    group_of,
+    groups_of,
+    line_of,
+    print_line,
+    print_lines,
+    print_object,
+    say_notes,
+    status_of_results,
+    table_of,
+)
 
 if TYPE_CHECKING:
     from ...catalogue.asking import Answer, Texts
-    from ..tables import Table
 
 
 class _Listed:
@@ -278,9 +283,7 @@ def _print_lines(group: Group, number: int, keeps: Keeps, texts: _Texts) -> None
     if number > 1:
         print_line("")
     print_line(f"{group.count} {'pictures' if group.are_pictures else 'files'}: {sentence_of(group)}:")
-    links: dict[bytes, list[Link]] = {}
-    for link in group.files.links:
-        links.setdefault(link.of, []).append(link)
+    links = grouped((link.of, link) for link in group.files.links)
     of_all = _of_all(group, keeps)
     about = {} if of_all or {one.why for one in keeps.values()} == {NOT_KNOWN} else keeps
     for picture in group.members:

@@ -3,24 +3,15 @@
 from __future__ import annotations
 
 import argparse
-from typing import TYPE_CHECKING, Iterator
+from typing import Iterator
 
-from ...fields.listing import readable
-from ...fields.shown import LIMITS
+from ...fields.listing import LIMITS, readable
 from ...model import steps
 from ...model.found import PROGRAMS
 from ...model.texts import escaped
 from ...picture import Block, Picture, ShownFields
-from ..columns import width
 from ..each_block import Describe, each_block, each_picture, status_of
-from ..exit_codes import SUCCESS, UNKNOWN
-from ..not_read import no_block, picture_cut, unread
-from ..objects import print_object
-from ..options import Least, groups_of
-from ..output import table_of
-
-if TYPE_CHECKING:
-    from ..tables import Table
+from ..output import SUCCESS, UNKNOWN, Least, Table, groups_of, no_block, picture_cut, print_object, table_of, unread, width
 
 
 def run(arguments: argparse.Namespace) -> int:

@@ -10,21 +10,15 @@ from collections import Counter
 from datetime import datetime, timezone
 from typing import BinaryIO, Callable, Iterable, Iterator, NamedTuple, Sequence
 
-from ...catalogue import bags
 from ...catalogue.store import Catalogue, NoCatalogue
 from ...comparison import verified
-from ...comparison.verified import State
+from ...comparison.verified import State, looker
 from ...files import atomic
-from ...model.errors import WrongUse
-from ...model.texts import escaped, in_words, path_members, path_or_none, shown_path
-from ...scan.hashing import looker
+from ...model.texts import WrongUse, escaped, in_words, path_members, path_or_none, shown_path
 from ...scan.index import IndexOptions, index
-from ..exit_codes import DIFFERENCE, SUCCESS, UNKNOWN
 from ..looking import how_of, is_quiet, opened
 from ..names import named, settle_first, with_first
-from ..objects import print_object
-from ..options import Files, Output, Run, groups_of
-from ..output import closed_folder, print_line, print_lines
+from ..output import DIFFERENCE, SUCCESS, UNKNOWN, Files, Output, Run, answer, closed_folder, groups_of, print_line
 
 SHOWN = 10  # files that are named of each state
 # The words of --list, and the states of the files that are listed then
@@ -61,19 +55,13 @@ def run(arguments: argparse.Namespace) -> int:
         _remove_state(arguments.state)
         below = f" below {', '.join(map(shown_path, folders))}" if folders else ""
         raise WrongUse(f"{name} has no file{below}, and none is there, so nothing is verified")
-    _print_end(output, told, sums, bool(arguments.bag))
+    about = {"counts": dict(told.counts), "damaged_before": told.old, **sums._asdict()}
+    answer(output, "verify", "summary", about, _lines(told, sums, "manifest" if arguments.bag else "catalogue"))
     if arguments.evidence and not output.json:
         print_line(f"{escaped(arguments.evidence)}: SHA-256 of {in_words(count, 'file')}, {_READERS[form]}")
     _remove_state(arguments.state)
     # a bag has no other files than its manifest, nor other names
     return _status(told, bool(arguments.bag and (new or told.counts[State.MOVED])))
-
-
-def _print_end(output: Output, told: Told, sums: _Sums, is_bag: bool) -> None:
-    if output.json:
-        print_object("verify", "summary", {"counts": dict(told.counts), "damaged_before": told.old, **sums._asdict()})
-    else:
-        print_lines(_lines(told, sums, "manifest" if is_bag else "catalogue"))
 
 
 def _status(told: Told, has_more: bool) -> int:
@@ -94,7 +82,7 @@ class _Sums(NamedTuple):
 
 def _folders(files: Files, bag: str | None, catalogue: Catalogue) -> list[bytes]:
     """The folders to read. Raises `WrongUse`."""
-    names = named(files) if files.names or files.files_from else [bags.payload(bag)] if bag else []
+    names = named(files) if files.names or files.files_from else [verified.payload(bag)] if bag else []
     folders = [os.path.abspath(it) for it in names] or catalogue.roots()
     for folder in folders:
         if not os.path.lexists(folder):  # as of a disk that isn't mounted: each of its files would seem to be missing
@@ -106,7 +94,7 @@ def _folders(files: Files, bag: str | None, catalogue: Catalogue) -> list[bytes]
 def _of_bag(bag: str, run: Run) -> Iterator[Catalogue]:
     """A catalogue of the manifest of a bag."""
     with Catalogue(os.path.join(run.session.room, "manifest"), make=True) as catalogue:
-        bags.fill(catalogue, bag)
+        verified.fill(catalogue, bag)
         yield catalogue
 
 
@@ -211,12 +199,10 @@ def _first(names: Sequence[str]) -> Iterator[str]:
 
 def _print_one(output: Output, result: verified.Verified) -> None:
     """Prints an object, or the line of a file with its state."""
-    if output.json:
-        known = {"state": result.state, "note": result.note or None, "place": path_or_none(result.place)}
-        print_object("verify", "picture", {**path_members(result.path), **known})
-    else:
-        state = [result.state.text.removesuffix(": index --pixels adds it")] * (result.state != State.AS_IT_WAS)
-        print_line(f"{shown_path(result.path)}: {', '.join([*state, *_words(result)])}")
+    known = {"state": result.state, "note": result.note or None, "place": path_or_none(result.place)}
+    state = [result.state.text.removesuffix(": index --pixels adds it")] * (result.state != State.AS_IT_WAS)
+    line = f"{shown_path(result.path)}: {', '.join([*state, *_words(result)])}"
+    answer(output, "verify", "picture", {**path_members(result.path), **known}, [line])
 
 
 def _words(result: verified.Verified) -> list[str]:
@@ -263,8 +249,7 @@ _Files = Iterable[tuple[bytes, str, int]]  # each with its SHA-256 and its bytes
 def _sums(files: _Files, _folder: bytes) -> Iterator[bytes]:
     time = datetime.now(timezone.utc).strftime("%Y-%m-%d %H:%M:%S")
     yield f"# exifnorm-pictures verify, {time} UTC. To check again: sha256sum --quiet -c FILE\n".encode("ascii")
-    for path, digest, _ in files:
-        yield line_of_sums(path, digest)
+    yield from (line_of_sums(path, digest) for path, digest, _ in files)
 
 
 def _hashdeep(files: _Files, _folder: bytes) -> Iterator[bytes]:
@@ -280,7 +265,7 @@ def _bag(files: _Files, folder: bytes) -> Iterator[bytes]:
     """The manifest of a bag (RFC 8493, 2.1.3), of the files of its payload. Raises `NotReplaced`."""
     for path, digest, _ in files:
         name = os.path.relpath(path, folder)
-        if not name.startswith(bags.PAYLOAD):
+        if not name.startswith(verified.PAYLOAD):
             raise atomic.NotReplaced(f"a bag has its files in the folder data beside the manifest, and {shown_path(path)} isn't there")
         try:
             name.decode("utf-8")

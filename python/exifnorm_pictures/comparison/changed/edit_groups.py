@@ -8,11 +8,8 @@ from dataclasses import dataclass, field
 from typing import Collection, Iterable, Sequence
 
 from ...model.found import STANDARDS
-from ..differing import FieldDifference
-from .edit_words import NUMBERED, line_of
-from .edits import NUMBERS, Edit, digest, edits_of, places_of, numberless
-from .marking import IN, KEPT, OUT, Step
-from ..wording import look
+from ..wording import IN, KEPT, OUT, FieldDifference, Step, look
+from .edits import NUMBERED, line_of, NUMBERS, Edit, digest, edits_of, places_of, numberless
 
 # Different sets of edits, and edits of all of them. Nobody reads so many groups, and they take
 # 11 MB at most; pictures of further sets are counted, which the page says.

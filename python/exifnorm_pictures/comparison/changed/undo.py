@@ -12,7 +12,7 @@ from ...fields import labels
 from ...fields.field import Field
 from ...fields.plain_texts import is_utf8, text_of_comment
 from ...model.xmp_values import Array, Long, simple_texts
-from ..differing import FieldDifference
+from ..wording import FieldDifference
 
 # Before the texts whose earlier bytes are UTF-8, and before those in Windows-1252. IPTC that
 # declares UTF-8 is written so, whatever is asked for.

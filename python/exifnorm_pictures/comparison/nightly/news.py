@@ -13,14 +13,10 @@ from ...catalogue.kept_texts import rows_of
 from ...catalogue.store import Catalogue
 from ...fields.labels import POSITION, fields_by_label
 from ...files.session import Session
-from ...model.problems import NOT_READABLE, Problem
+from ...model.texts import NOT_READABLE, Problem, Result, Word, whole_path
 from ...model.records import PictureRecord, Stamp
 from ...model.rest import counting
-from ...model.results import Result
-from ...model.texts import whole_path
-from ...model.words import Word
-from ...scan.moved import moved_together
-from ...scan.seen import Paths
+from ...scan.moved import Paths, moved_together
 from ..changed.edit_groups import Kinds
 from ..changed.states import Compared, changed, total
 from ..changed.summary import standards_of

@@ -13,9 +13,8 @@ from ...fields.listing import MAKER_NOTE, exact
 from ...fields.packing import unpacked
 from ...model import steps
 from ...model.found import EXIF, KINDS, other_name
-from ...model.records import PICTURES, has, kind_of
-from ...model.sides import Status, joined
-from ..differing import equal_form
+from ...model.records import PICTURES, Status, has, joined, kind_of
+from ..wording import equal_form
 
 _BATCH = 1000  # rows that are written at once
 

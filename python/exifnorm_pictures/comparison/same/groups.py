@@ -12,17 +12,15 @@ import os
 import sys
 from typing import Iterable, Iterator, NamedTuple, Sequence
 
-from ...catalogue.store import Catalogue, PICTURE_COLUMNS
+from ...catalogue.store import PICTURE_COLUMNS, Catalogue
 from ...extract.sidecars import Folders
-from ...fields.block_fields import known_fields
-from ...fields.choosing import Choice, EVERYTHING, UnknownField
+from ...fields.choosing import EVERYTHING, Choice, UnknownField
+from ...fields.packing import known_fields
 from ...model import steps
 from ...model.found import BROKEN, EXIF, IPTC, KINDS, REST, WITHOUT_IPTC, each_kind, other_name
-from ...model.problems import NOT_THERE
 from ...model.records import PictureRecord, Stamp, is_marked_as, picture_of_row
-from ...model.texts import pictures_in_words
-from .group import Basis, Files, Group, Link, OTHERS, Shared
-
+from ...model.texts import NOT_THERE, grouped, pictures_in_words
+from .group import OTHERS, Basis, Files, Group, Link, Shared
 
 COUNTED = "temp.counted"  # the pictures without the fields that don't count
 # What a MakerNote may lead to: only in a block with the same bytes it is the same
@@ -163,9 +161,7 @@ _DIFFERENT = "count(DISTINCT whole), count(DISTINCT listing), count(DISTINCT pla
 
 def _take_one_of_each(group: Group) -> None:
     """Leaves in a group one picture of each earlier group, and counts the others."""
-    by_key: dict[tuple[object, ...], list[PictureRecord]] = {}
-    for picture in group.members:
-        by_key.setdefault(_class_of(picture, group.shared.kinds), []).append(picture)
+    by_key = grouped((_class_of(it, group.shared.kinds), it) for it in group.members)
     group.files = group.files.only([same[0] for same in by_key.values()])
     group.others = {same[0].id: len(same) - 1 for same in by_key.values() if len(same) > 1}
 

@@ -8,12 +8,10 @@ from __future__ import annotations
 
 from typing import Callable, Iterator, NamedTuple
 
-from ...model.budgets import BOXES, BOX_BYTES, budget_of
-from ...model.found import CUT, REST, SIX, XMP, Blocks, Broken, damage
+from ...model.found import BOX_BYTES, BOXES, CUT, REST, SIX, XMP, Blocks, Broken, budget_of, damage
 from ...model.tiff_types import HEADS
 from .packet_start import begins_packet
-from .parts import CREDENTIALS
-from .streams import Stream, leave, leave_rest, leave_whole, read_at, size_of
+from .streams import CREDENTIALS, Stream, leave, leave_rest, leave_whole, read_at, size_of
 
 _LONGEST_HEAD = 32
 XMP_UUID = bytes.fromhex("be7acfcb97a942e89c71999491e3afac")  # XMP part 3, 1.1.4

@@ -5,11 +5,9 @@ Not compared, because they contain no Exif, IPTC or XMP: comments, plain texts, 
 
 from __future__ import annotations
 
-from ...model.budgets import BLOCK_BYTES, EXTENSIONS, budget_of
-from ...model.found import IPTC, XMP, Blocks, Broken
+from ...model.found import BLOCK_BYTES, EXTENSIONS, IPTC, XMP, Blocks, Broken, budget_of
 from . import photoshop
-from .parts import CREDENTIALS
-from .streams import PIECE, Stream, leave, leave_rest, size_of
+from .streams import CREDENTIALS, PIECE, Stream, leave, leave_rest, size_of
 
 STARTS = (b"GIF87a", b"GIF89a")
 _EXTENSION, _IMAGE, _END = 0x21, 0x2C, 0x3B

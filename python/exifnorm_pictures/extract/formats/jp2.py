@@ -7,12 +7,11 @@ IPTC or XMP: the codestream with its comments, colour profiles.
 from __future__ import annotations
 
 
-from ...model.budgets import CHUNKS, budget_of
-from ...model.found import EXIF, IN_PICTURE, IPTC, SIX, Blocks, Broken
+from ...model.found import CHUNKS, EXIF, IN_PICTURE, IPTC, SIX, Blocks, Broken, budget_of
 from . import photoshop, tiff
 from .boxes import XMP_UUID, Box, add_xml, add_xmp, boxes, boxes_of_file, content
-from .embedded import add_inside
 from .streams import Stream, Window, leave, read_at, size_of
+from .embedded import add_inside
 
 START = b"\0\0\0\x0cjP  \r\n\x87\n"
 BARE = b"\xff\x4f\xff\x51"

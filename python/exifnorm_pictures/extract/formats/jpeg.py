@@ -8,17 +8,32 @@ from __future__ import annotations
 
 import hashlib
 import re
+import struct
 from typing import Iterator
 
 from exifnorm._jpeg import RESOURCE_REST, rest_parts
 
 from ...fields.xmp_properties import line_of
-from ...model.budgets import RESOURCES, Budget, budget_of
-from ...model.found import CUT, EXIF, IPTC, REST, SIX, XMP, XMP_HEAD, Blocks, Broken, NotRead
+from ...model.found import (
+    CUT,
+    EXIF,
+    IPTC,
+    RESOURCES,
+    REST,
+    SIX,
+    XMP,
+    XMP_HEAD,
+    Blocks,
+    Broken,
+    Budget,
+    FoundBlock,
+    NotRead,
+    budget_of,
+    ordinal,
+)
 from ...model.xmp_names import short_name
 from ..structure import PRIVATE_TAGS
-from . import mpf, photoshop
-from .extended_xmp import HEAD as EXTENDED, Pieces
+from . import jpeg_tail, photoshop
 from .jpeg_segments import (
     APP0,
     APP1,
@@ -41,9 +56,52 @@ from .jpeg_segments import (
     rest_of,
 )
 from .jpeg_tail import ALONE, WINDOW, Markers, Tail, segments, tail
-from .parts import CREDENTIALS, METADATA, PICTURE, REST as THE_REST, STRUCTURE, Part, Range, word
-from .streams import Stream, digest_of, read_at, size_of
+from .streams import CREDENTIALS, METADATA, PICTURE, REST as THE_REST, STRUCTURE, Part, Range, Stream, digest_of, read_at, size_of, word
 from .trailers import known_trailer, leave_trailer
+
+# Extended XMP: a packet that is too long for one segment of a JPEG, in pieces (XMP part 3, 1.1.3.1).
+
+EXTENDED = b"http://ns.adobe.com/xmp/extension/\0"
+_DIGEST = 32  # characters of the digest in the main packet, after the head
+_BEFORE = _DIGEST + 8  # the total length and the offset of the piece follow, four bytes each
+NAME = "extended XMP"
+
+
+class Pieces:
+    """The pieces of the extended packets of one picture, each by its offset."""
+
+    def __init__(self) -> None:
+        self._parts: dict[bytes, tuple[int, dict[int, bytes]]] = {}
+        self._places: dict[bytes, str] = {}
+
+    def add(self, data: bytes, place: str) -> bool:
+        """Adds a piece, which is all behind the head; whether it fits the others of its packet."""
+        if len(data) < _BEFORE:
+            return False
+        digest = data[:_DIGEST]
+        total, offset = struct.unpack_from(">II", data, _DIGEST)
+        known = self._parts.setdefault(digest, (total, {}))
+        self._places.setdefault(digest, place)
+        if known[0] != total or offset in known[1]:
+            return False
+        known[1][offset] = data[_BEFORE:]
+        return True
+
+    def put_together(self, blocks: Blocks, part: str = "") -> None:
+        """Adds each packet that is complete; the others are not read."""
+        of = f" of {part}" if part else ""
+        for number, (digest, (total, pieces)) in enumerate(self._parts.items(), 1):
+            name = (NAME if number == 1 else f"{ordinal(number)} {NAME}") + of
+            offsets = sorted(pieces)
+            ends = [it + len(pieces[it]) for it in offsets]
+            data = b"".join(pieces[it] for it in offsets)
+            if offsets == [0, *ends[:-1]] and ends[-1] == total:
+                extends = digest.decode("latin-1").upper()
+                blocks.check()
+                blocks.blocks.append(FoundBlock(XMP, data, name, self._places[digest], extends=extends))
+            else:
+                blocks.leave(f"{name}, of which pieces are missing or overlap", data)
+
 
 START = b"\xff\xd8\xff"
 NO_END_MARK = f"{CUT}before the end mark of its picture"  # which a decoder may still read wholly
@@ -178,7 +236,7 @@ _MARKS = (
     (APP1, _EXIF_LIKE, EXIF),
     (APP1, _XMP_LIKE, XMP),
     (APP13, re.compile(rb"Adobe_Photoshop2\.5:.{0,8}", re.S), _RESOURCES),  # of an older Photoshop
-    (APP2, re.compile(re.escape(mpf.HEAD)), _INDEX),
+    (APP2, re.compile(re.escape(jpeg_tail.HEAD)), _INDEX),
 )
 
 
@@ -208,7 +266,7 @@ def _further(stream: Stream, head: _Head, end: int) -> list[int]:
 
 def _pictures(blocks: Blocks, stream: Stream, index: tuple[int, bytes], first: int, end: int) -> list[int]:
     """The offsets of the further pictures of one index, with the offset of its header. Raises `Broken` if it doesn't fit the file."""
-    places = mpf.further_pictures(index[1], index[0])
+    places = jpeg_tail.further_pictures(index[1], index[0])
     for number, (start, length) in enumerate(places, 2):
         is_picture = end > start + 3 and read_at(stream, start, 3) == START
         if is_picture and start + length > end:

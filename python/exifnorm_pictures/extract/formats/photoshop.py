@@ -11,9 +11,8 @@ from typing import Iterator, Sequence
 
 import exifnorm
 
-from ...model.budgets import LIMITS, RESOURCES, TooMuch
-from ...model.found import EXIF, FEW, IPTC, SIX, XMP, Blocks
-from .parts import METADATA, REST, STRUCTURE, Joined, Part, Range
+from ...model.found import EXIF, FEW, IPTC, LIMITS, RESOURCES, SIX, XMP, Blocks, TooMuch
+from .streams import METADATA, REST, STRUCTURE, Joined, Part, Range
 
 HEAD = b"Photoshop 3.0\0"
 SIGNATURES = frozenset(b"8BIM PHUT AgHg DCSR MeSa".split())  # Photoshop, PhotoDeluxe, Lightroom, and two that are not documented

@@ -10,11 +10,24 @@ import zlib
 from functools import partial
 from typing import Iterable, Iterator
 
-from ...model.budgets import CHUNKS, CHUNK_BYTES, Budget, budget_of
-from ...model.found import EXIF, IPTC, SIX, XMP, XMP_HEAD, Blocks, Broken
+from ...model.found import CHUNK_BYTES, CHUNKS, EXIF, IPTC, SIX, XMP, XMP_HEAD, Blocks, Broken, Budget, budget_of
 from . import photoshop
-from .parts import CREDENTIALS, METADATA, PICTURE, PROFILE, REST, STRUCTURE, Chunk, Part, of_chunks, word
-from .streams import Stream, leave_rest, read_at, size_of
+from .streams import (
+    CREDENTIALS,
+    METADATA,
+    PICTURE,
+    PROFILE,
+    REST,
+    STRUCTURE,
+    Chunk,
+    Part,
+    of_chunks,
+    word,
+    Stream,
+    leave_rest,
+    read_at,
+    size_of,
+)
 
 START = b"\x89PNG\r\n\x1a\n"
 _XMP_KEYWORD = b"xml:com.adobe.xmp"

@@ -7,13 +7,11 @@ lengths of the parts as numbers of four bytes, the high byte first.
 from __future__ import annotations
 
 
-from ...model.budgets import budget_of
-from ...model.found import EXIF, Blocks, Broken, NotRead
+from ...model.found import EXIF, Blocks, Broken, NotRead, budget_of
 from ...model.tiff_types import HEADS
-from .embedded import add_jpeg
 from .streams import Stream, Window, leave_rest, leave_whole, read_at, size_of
-from .tiff_block import Layout, Table, is_pointer
-from .tiff_directories import Directories
+from .embedded import add_jpeg
+from .tiff_directories import Layout, Table, is_pointer, Directories
 
 START = b"FUJIFILMCCD-RAW "
 _HEADER = 0x88  # bytes of the longest header; the JPEG follows a shorter one directly

@@ -7,14 +7,101 @@ A directory is read once. Values may share bytes, as the engine refuses that by 
 from __future__ import annotations
 
 import struct
-from bisect import bisect_left
+from bisect import bisect_left, bisect_right
 from itertools import count
 from typing import Container, Iterator, NamedTuple
 
-from ...model.budgets import DIRECTORIES, ENTRIES, VALUE_BYTES, budget_of
-from ...model.found import Broken
+from exifnorm import LIMIT
+
+from ...model.found import DIRECTORIES, ENTRIES, VALUE_BYTES, Broken, budget_of
+from ...model.tiff_types import BIG_TIFF, IFD, IFD8, LONG, LONG8, SHORT, SLONG, SLONG8, TIFF, Type
 from .streams import Stream, read_at, size_of
-from .tiff_entries import BIG, CLASSIC, IN_ENTRY, Entry, Variant, narrowed
+
+# The entries of a directory of TIFF and of BigTIFF, whose offsets and counts have eight bytes (TIFF 6.0; LibTIFF, "BigTIFF Design").
+#
+# Those of a BigTIFF are given the form of those of a TIFF, because a block has no other: LONG8, SLONG8 and IFD8 become LONG, SLONG and IFD
+# where the number fits. So a BigTIFF and a TIFF with equal fields have equal blocks.
+
+SUB_IFDS = 0x014A
+PIXELS: dict[int, str] = {  # of offsets and lengths
+    0x0111: "StripOffsets",
+    0x0117: "StripByteCounts",
+    0x0120: "FreeOffsets",
+    0x0121: "FreeByteCounts",
+    0x0144: "TileOffsets",
+    0x0145: "TileByteCounts",
+    0x0201: "JPEGInterchangeFormat",
+    0x0202: "JPEGInterchangeFormatLength",
+    0x0207: "JPEGQTables",
+    0x0208: "JPEGDCTables",
+    0x0209: "JPEGACTables",
+}
+IN_ENTRY = 4  # bytes of a value at most that is in its entry in a block
+_LISTS = frozenset((*PIXELS, SUB_IFDS))  # which aren't in a block
+_POINTERS = frozenset((0x8769, 0x8825, 0xA005))  # Exif, GPS, Interoperability
+_NARROW = {LONG8: LONG, SLONG8: SLONG, IFD8: IFD}
+_OFFSETS = (SHORT, LONG, IFD, LONG8, IFD8)
+
+
+class Variant(NamedTuple):
+    """How many bytes the numbers of a file's structure have, which is all that distinguishes BigTIFF from TIFF."""
+
+    header: int  # bytes of the header, which ends with the offset of the first directory
+    number: int  # of the number of a directory's entries
+    offset: int  # of an offset, and of the last field of an entry
+    row: str  # the tag, the type, the number of elements and the last field of an entry, for `struct`
+    sizes: dict[int, int]  # of an element, by the types that there are
+    codes: dict[int, str]  # of a number, by the types that offsets and lengths have
+
+
+def _variant(header: int, count: int, offset: int, row: str, types: dict[int, Type]) -> Variant:
+    sizes = {number: kind.size for number, kind in types.items()}
+    return Variant(header, count, offset, row, sizes, {number: types[number].code for number in _OFFSETS if number in types})
+
+
+CLASSIC = _variant(8, 2, 4, "HHI4s", TIFF)
+BIG = _variant(16, 8, 8, "HHQ8s", BIG_TIFF)
+
+
+class Entry(NamedTuple):
+    """An entry: its last field is its value, or the offset of a value of more than `IN_ENTRY` bytes."""
+
+    tag: int
+    type: int
+    elements: int
+    last: bytes
+    size: int  # the bytes of the value; 0 for a type that is not known
+
+
+def narrowed(order: str, place: int, tag: int, kind: int, count: int, last: bytes) -> Entry:
+    """An entry of a BigTIFF in the form of TIFF; its last field is at `place` in the file. Raises `Broken`.
+
+    >>> narrowed("<", 28, 0x0100, LONG8, 1, b"\\7" + bytes(7))
+    Entry(tag=256, type=4, elements=1, last=b'\\x07\\x00\\x00\\x00', size=4)
+    """
+    if count > 0xFFFFFFFF:
+        raise Broken(f"the entry {tag:04x} has too many values")
+    size = BIG.sizes.get(kind, 0) * count
+    if kind in _NARROW and tag not in _LISTS:
+        return _narrowed_number(order, tag, kind, count, last)
+    if kind == IFD and tag in _POINTERS and count <= 1:
+        kind = LONG
+    if IN_ENTRY < size <= BIG.offset:
+        last = struct.pack(order + "Q", place)
+    return Entry(tag, LONG8 if kind in _NARROW else kind, count, last[:IN_ENTRY] if size <= IN_ENTRY else last, size)
+
+
+def _narrowed_number(order: str, tag: int, kind: int, count: int, last: bytes) -> Entry:
+    if count != 1:
+        raise Broken(f"the entry {tag:04x} has several numbers of eight bytes")
+    narrow = _NARROW[kind]
+    if tag in _POINTERS and kind != SLONG8:
+        return Entry(tag, LONG, 1, last, IN_ENTRY)
+    (number,) = struct.unpack(order + BIG_TIFF[kind].code, last)
+    try:
+        return Entry(tag, narrow, 1, struct.pack(order + TIFF[narrow].code, number), IN_ENTRY)
+    except struct.error:
+        raise Broken(f"the entry {tag:04x} has a number of more than four bytes") from None
 
 
 class Directory(NamedTuple):
@@ -170,3 +257,114 @@ class Directories:
         code = self.variant.codes.get(entry.type)
         data = self.value(entry) if code else b""
         return [number for number, in struct.iter_unpack(self.order + code, data)] if code and len(data) == entry.size else []
+
+
+# A directory of a TIFF file as an Exif block by itself: the tables first, then the values, without the entries that are left out.
+#
+# Values that share bytes in the file share them in the block, so the engine refuses here what it would refuse in the file. A value
+# outside the file is outside the block.
+
+NOWHERE = 0xFFFFFFFF
+_EXIF, _MAKER_NOTE = 0x8769, 0x927C
+
+
+class Table(NamedTuple):
+    """A directory for a block: its entries, and the tables of the pointers among them, by their tags."""
+
+    entries: list[Entry]
+    below: "dict[int, Table]"
+
+
+def is_pointer(entry: Entry) -> bool:
+    """Whether an entry has a pointer's type and count, and is followed."""
+    return entry.type == LONG and entry.elements == 1
+
+
+def is_directory(entry: Entry) -> bool:
+    """The same of a pointer to a directory, which may have type IFD, as libtiff writes it (TIFF Technical Note 1): it counts as LONG."""
+    return entry.type in (LONG, IFD) and entry.elements == 1
+
+
+def is_ifd(table: Table, entry: Entry) -> bool:
+    """Whether an entry is a pointer of type IFD that is followed."""
+    return entry.tag in table.below and entry.type == IFD
+
+
+class Layout:
+    """The block of a table: the offsets of its tables and its values. Raises `Broken` through the directories."""
+
+    def __init__(self, directories: Directories, table: Table) -> None:
+        self._directories = directories
+        self._tables = [table]
+        for table in self._tables:  # which grows meanwhile
+            self._tables += table.below.values()
+        self._parts = _joined(
+            [place for table in self._tables for entry in table.entries if (place := directories.place_of(entry)) is not None]
+        )
+        self._places: dict[int, int] = {}
+        self.length = 8
+        for table in self._tables:
+            self._places[id(table)] = self.length
+            self.length += 6 + 12 * len(table.entries)
+        self._offsets: list[int] = []
+        for start, end in self._parts:
+            self._offsets.append(self.length)
+            self.length += end - start
+
+    def block(self, of: str) -> bytes:
+        """The bytes of the block, which is one of a part of this name. Raises `Broken` if it is
+        too long."""
+        if self.length > LIMIT:
+            raise Broken(f"{of} has more than {LIMIT:,} bytes of values")
+        order = self._directories.order
+        written = [b"II*\0" if order == "<" else b"MM\0*", struct.pack(order + "I", 8)]
+        for table in self._tables:
+            written.append(struct.pack(order + "H", len(table.entries)))
+            for entry in table.entries:
+                kind = LONG if is_ifd(table, entry) else entry.type
+                written.append(struct.pack(order + "HHI", entry.tag, kind, entry.elements) + self._last_field(table, entry))
+            written.append(bytes(4))
+        written += [self._directories.part(start, end) for start, end in self._parts]
+        return b"".join(written)
+
+    @property
+    def has_ifd(self) -> bool:
+        """Whether a pointer of type IFD is LONG in the block."""
+        return any(is_ifd(it, entry) for it in self._tables for entry in it.entries)
+
+    @property
+    def note(self) -> int | None:
+        """Where the MakerNote begins in the file, since its offsets may count from the file's header. None: none, or in its entry."""
+        exif = self._tables[0].below.get(_EXIF)
+        notes = [self._directories.place_of(it) for it in exif.entries if it.tag == _MAKER_NOTE and it.size > IN_ENTRY] if exif else []
+        return notes[-1][0] if notes and notes[-1] else None
+
+    def _last_field(self, table: Table, entry: Entry) -> bytes:
+        if entry.tag in table.below:
+            offset = self._places[id(table.below[entry.tag])]
+        elif entry.size <= IN_ENTRY:
+            return entry.last[:IN_ENTRY]
+        else:
+            place = self._directories.place_of(entry)
+            offset = self._moved(place[0]) if place else NOWHERE
+        return struct.pack(self._directories.order + "I", offset)
+
+    def _moved(self, place: int) -> int:
+        """The offset in the block of a value at an offset of the file."""
+        number = bisect_right(self._parts, (place, NOWHERE)) - 1
+        return self._offsets[number] + place - self._parts[number][0]
+
+
+def _joined(places: list[tuple[int, int]]) -> list[tuple[int, int]]:
+    """The parts of a file that some ranges cover, those that share bytes being one part.
+
+    >>> _joined([(20, 30), (8, 12), (25, 40), (12, 20)])
+    [(8, 12), (12, 20), (20, 40)]
+    """
+    joined: list[tuple[int, int]] = []
+    for start, end in sorted(places):
+        if joined and start < joined[-1][1]:
+            joined[-1] = (joined[-1][0], max(end, joined[-1][1]))
+        else:
+            joined.append((start, end))
+    return joined

@@ -6,10 +6,23 @@ from __future__ import annotations
 import struct
 from typing import Iterable, Iterator
 
-from ...model.budgets import CHUNKS, CHUNK_BYTES, Budget, budget_of
-from ...model.found import EXIF, SIX, XMP, Blocks, Broken
-from .parts import CREDENTIALS, METADATA, PICTURE, PROFILE, REST, STRUCTURE, Chunk, Part, of_chunks, word
-from .streams import Stream, leave_rest, read_at, size_of
+from ...model.found import CHUNK_BYTES, CHUNKS, EXIF, SIX, XMP, Blocks, Broken, Budget, budget_of
+from .streams import (
+    CREDENTIALS,
+    METADATA,
+    PICTURE,
+    PROFILE,
+    REST,
+    STRUCTURE,
+    Chunk,
+    Part,
+    of_chunks,
+    word,
+    Stream,
+    leave_rest,
+    read_at,
+    size_of,
+)
 
 _FIRST = 12  # the offset of the first chunk
 PIXELS = frozenset((b"VP8 ", b"VP8L", b"ALPH", b"ANIM", b"ANMF"))  # chunks of the coded picture

@@ -2,8 +2,7 @@
 
 from __future__ import annotations
 
-from ...model.budgets import PACKET_BYTES, TooMuch, budget_of
-from ...model.found import XMP, XMP_FILE, Blocks, LeftToOthers
+from ...model.found import PACKET_BYTES, XMP, XMP_FILE, Blocks, LeftToOthers, TooMuch, budget_of
 from .packet_start import begins_packet
 from .streams import HEAD, Stream, read_at, size_of
 
