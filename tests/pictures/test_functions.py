@@ -180,10 +180,6 @@ def line_of(status, cause, place):
     return it.refusal, it.line
 
 
-def programs_of_picture(picture):
-    return picture.programs
-
-
 def marks(*four):
     names_ = ("st_size", "st_mtime_ns", "st_ctime_ns", "st_ino", "st_dev")
     return tuple(Stamp.of(SimpleNamespace(**dict(zip(names_, (*four, 9))))))[:4]
@@ -267,11 +263,6 @@ RESULTS = [
     (line_of, ("too long", "NormalTooLong", None), ("NormalTooLong", "refused: NormalTooLong")),
     (line_of, ("failed", "OutOfMemory", None), ("OutOfMemory", "failed: OutOfMemory")),
     (lambda: PictureRecord.of(b"/a", b"/").state, (), "no block"),
-    # the programs that have extracted the blocks of a picture, or have found that it has none, or have read its MakerNotes
-    (programs_of_picture, (OWN,), set()),
-    (programs_of_picture, (OWN._replace(notes=b"[]"),), {"exiftool"}),
-    (programs_of_picture, (OWN._replace(extractor="exiftool"),), {"exiftool"}),
-    (programs_of_picture, (OWN._replace(blocks=(block_record("accepted", None, 1)._replace(extractor="exiv2"),)),), {"exiv2"}),
     (
         output.record_lines,
         (PictureRecord.of(b"/a", b"/", blocks=NOT_MADE),),
