@@ -22,6 +22,7 @@ QUIET = re.compile(
     r"core::.*|byteorder::.*|itoa::Buffer::.*|hex::encode_to_slice|md5::.*|memchr::bytes::.*|std_alloc::boxed::Box::drop|std_alloc::string::String::(?:as_str|drop|new)|"
     r"std_alloc::vec::Vec::(?:allocator|as_mut_slice|as_slice|capacity|clear|drop|is_empty|last_mut|len|new|pop|push_reserved|truncate)|"
     r"std_alloc::vec::(?:derefs|lends)::.*|"
+    r"std_alloc::vec::into_iter::(?:IntoIterIterator::next|VecIntoIterator::into_iter)|std_alloc::vec::deque::VecDeque::drop|"
     r"std_alloc::collections::binary_heap::BinaryHeap(?:::into_sorted_vec|FromVec::from)|"
     r"std_collections::btree_map::BTreeMap::new|clap::error::.*|clap::parser::matches::ArgMatches::(?:get_str|subcommand)"
 )
