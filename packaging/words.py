@@ -61,7 +61,7 @@ def labels_of() -> dict[str, str]:
 
 def own_texts_of() -> dict[str, Any]:
     """The rules of texts that cameras and programs write by themselves. JavaScript writes the end of a text in another way."""
-    rules = {"program": labels._PROGRAM, "camera": labels._CAMERA, "file": labels._FILE.replace(r"\Z", "$")}
+    rules = {"program": labels._PROGRAM, "camera": labels._OF_CAMERA, "file": labels._FILE.replace(r"\Z", "$")}
     return {"texts": sorted(labels._TEXTS), **rules, "filling": sorted(labels._FILLING)}
 
 

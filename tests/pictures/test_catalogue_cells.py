@@ -156,8 +156,8 @@ def test_fields_are_unpacked_where_they_are_needed(tmp_path, monkeypatch, called
     called("index", "p", "--catalogue", "before", "--pixels", "--sidecars", "--quiet")
     put("p", {"b.jpg": with_exif(SMALL_JPEG, b"no block either")})
     called("index", "p", "--catalogue", "after", "--pixels", "--sidecars", "--quiet")
-    asked = []
-    monkeypatch.setattr(packing, "parted", lambda cells: asked.append(cells) or packing.parted(cells))
+    asked, parted = [], packing.parted
+    monkeypatch.setattr(packing, "parted", lambda cells: asked.append(cells) or parted(cells))
     for words in (
         ["changed", "before", "after"],
         ["verify", "after", "--quiet"],

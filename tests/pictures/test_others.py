@@ -15,7 +15,7 @@ from exifnorm_pictures.files.session import Session
 from exifnorm_pictures.model.found import Blocks, NotRead
 from exifnorm_pictures.model.texts import TEXTS
 
-ASKED = ("-EXIF:Exif", "-IPTC:IPTC", "-XMP:XMP", "-FileType#", "-MIMEType#", "-Error#", "-ExifTool:ExifToolVersion#")
+ASKED = ("-EXIF:Exif", "-IPTC:IPTC", "-XMP:XMP", "-FileType#", "-MIMEType#", "-Error#")
 # Files in the structure of TIFF, by ExifTool's list of file types
 RAW = "TIFF DNG NEF NRW CR2 ARW ARQ SR2 SRF SRW ORF PEF RW2 RWL 3FR IIQ ERF MEF MOS DCR KDC K25 GPR FFF RAW".split()
 
