@@ -8,7 +8,7 @@ from typing import NamedTuple, Tuple
 
 sys.path.insert(0, str(Path(__file__).resolve().parent.parent / "python"))
 
-from exifnorm_pictures.extract import extraction  # noqa: E402
+from exifnorm_pictures.extract import readers  # noqa: E402
 
 
 class Words(NamedTuple):
@@ -123,7 +123,7 @@ WORDS = {
     ),
 }
 OTHERS = ("others, damaged files, other raw pictures", "by ExifTool and exiv2, never wholly read", "by ExifTool", "by ExifTool")
-FORMATS = [(it.name, WORDS[it.name]) for it in extraction.FORMATS]
+FORMATS = [(it.name, WORDS[it.name]) for it in readers.FORMATS]
 
 
 def lines(*rows: Tuple[str, ...]) -> str:

@@ -10,7 +10,7 @@ import subprocess
 from hypothesis import strategies as st
 from studio import run
 
-from exifnorm_pictures.extract import extraction
+from exifnorm_pictures.extract import readers
 from exifnorm_pictures.model.found import Broken, LeftToOthers
 
 _KINDS = {"EXIF": "exif", "IPTC": "iptc", "XMP": "xmp"}
@@ -48,7 +48,7 @@ def tags_of_exiftool(folder):
 
 def seen(octets):
     """What the reader of a file finds in it; nothing if no reader can read it."""
-    read = extraction.reader_of(octets[: extraction.HEAD], b"")
+    read = readers.reader_of(octets[: readers.HEAD], b"")
     try:
         found = read(io.BytesIO(octets), False) if read else None
     except (Broken, LeftToOthers):

@@ -33,7 +33,7 @@ import exifnorm_pictures
 from exifnorm import pictures
 from exifnorm_pictures import many
 from exifnorm_pictures.catalogue import texts
-from exifnorm_pictures.extract import extraction
+from exifnorm_pictures.extract import readers
 from exifnorm_pictures.fields import labels, packing, typed as xmp_types
 from exifnorm_pictures.fields.field import Field
 
@@ -370,10 +370,8 @@ FORMATS = {
 
 def test_each_format_has_its_file():
     """A new format needs one above, for the tests of all formats."""
-    heads = {name: (data[: extraction.HEAD], f"a.{name}".encode()) for name, data in FORMATS.items()}
-    assert {it.name for it in extraction.FORMATS} == {
-        next(it.name for it in extraction.FORMATS if it.is_of(*head)) for head in heads.values()
-    }
+    heads = {name: (data[: readers.HEAD], f"a.{name}".encode()) for name, data in FORMATS.items()}
+    assert {it.name for it in readers.FORMATS} == {next(it.name for it in readers.FORMATS if it.is_of(*head)) for head in heads.values()}
 
 
 class Unseekable(io.RawIOBase):

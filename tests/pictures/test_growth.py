@@ -21,7 +21,7 @@ from growing import FOLDERS, FORMATS as MAKERS, IN_EACH_FORMAT, KINDS, OF_SHARED
 from work import COUNTED, Work
 
 from exifnorm_pictures.cli.parser import parsers
-from exifnorm_pictures.extract.extraction import FORMATS
+from exifnorm_pictures.extract.readers import FORMATS
 
 TIMES = 2.3
 FEW = {

@@ -12,7 +12,7 @@ from exifnorm_pictures.catalogue import store
 from exifnorm_pictures.catalogue.store import Catalogue, NoCatalogue
 from exifnorm_pictures.cli import main
 from exifnorm_pictures.comparison.changed import states as changed, pairs
-from exifnorm_pictures.extract import extraction
+from exifnorm_pictures.extract import extraction, readers
 from exifnorm_pictures.extract.formats import png
 from exifnorm_pictures.files import opening, signals
 from exifnorm_pictures.fields import packing
@@ -239,14 +239,14 @@ def test_keys_of_fields_that_are_damaged(tmp_path):
 def test_a_picture_at_which_we_fail(command, monkeypatch):
     """Others are looked at, the line has the place of the mistake, and the next run looks at it again."""
     with monkeypatch.context() as planted:
-        reader_of = extraction.reader_of
-        planted.setattr(extraction, "reader_of", lambda head, path: mistake if head.startswith(png.START) else reader_of(head, path))
-        packing = command("index", "p", "--catalogue", "c", status=2).out.splitlines()
+        reader_of = readers.reader_of
+        planted.setattr(readers, "reader_of", lambda head, path: mistake if head.startswith(png.START) else reader_of(head, path))
+        lines = command("index", "p", "--catalogue", "c", status=2).out.splitlines()
         found = [json.loads(it) for it in command("show", "p/b.png", "p/a.jpg", "--json", status=2).out.splitlines()]
         explained = command("explain", "p/b.png", "--debug", status=2)
-    assert [it.partition(":")[0] for it in packing[:-1]] == ["p/b.png"]
-    assert "b.png: InternalError: " in packing[0] and f"TypeError: {FAULT} (exifnorm_pictures/extract/extraction.py, line " in packing[0]
-    assert "1 at which exifnorm-pictures itself failed" in packing[-1]
+    assert [it.partition(":")[0] for it in lines[:-1]] == ["p/b.png"]
+    assert "b.png: InternalError: " in lines[0] and f"TypeError: {FAULT} (exifnorm_pictures/extract/extraction.py, line " in lines[0]
+    assert "1 at which exifnorm-pictures itself failed" in lines[-1]
     assert [it.get("problem") for it in found] == ["InternalError", None]
     assert explained.out.startswith("InternalError: ") and "    return None + 1" in explained.err.splitlines()
     assert command("index", "p", "--catalogue", "c", "--quiet", status=0).out.splitlines() == ["1 no block, 1 unchanged"]

@@ -9,7 +9,7 @@ from unittest import mock
 from made_files import app1, app13
 from studio import WithPictures, write
 
-from exifnorm_pictures.extract import exiftool, extraction, programs
+from exifnorm_pictures.extract import exiftool, programs, readers
 from exifnorm_pictures.extract.formats import tiff
 from exifnorm_pictures.files.session import Session
 from exifnorm_pictures.model.found import Blocks, NotRead
@@ -65,11 +65,11 @@ class Answers(unittest.TestCase):
         for it in RAW[1:]:
             for name in (it, it.lower()):
                 is_left = it not in ("DNG", "NEF", "CR2", "ARW", "SRW", "ORF", "PEF", "RW2")
-                read = extraction.reader_of(b"II*\0" + bytes(12), f"/a.b/c.{name}".encode())
+                read = readers.reader_of(b"II*\0" + bytes(12), f"/a.b/c.{name}".encode())
                 self.assertEqual((read is None, read is tiff.read), (is_left, not is_left), name)
-                self.assertIs(extraction.reader_of(b"II*\0" + bytes(12), f"/a.b/c.{name[:-1]}".encode()), tiff.read)
+                self.assertIs(readers.reader_of(b"II*\0" + bytes(12), f"/a.b/c.{name[:-1]}".encode()), tiff.read)
         for name, head, expected in ((b"c.nef", b"GIF8", None), (b"c.rwl", b"IIU\0", tiff.read), (b"c.nef", b"MM\0+", tiff.read_big)):
-            self.assertIs(extraction.reader_of(head + bytes(12), name), expected, name)
+            self.assertIs(readers.reader_of(head + bytes(12), name), expected, name)
 
 
 class Files(WithPictures):

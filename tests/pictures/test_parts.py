@@ -17,7 +17,7 @@ from test_bigtiff import IFD8, LONG8, big, fields
 from test_mutations import mutated
 
 from exifnorm_pictures.comparison import two_pictures
-from exifnorm_pictures.extract import coded_picture, extraction
+from exifnorm_pictures.extract import coded_picture, readers
 from exifnorm_pictures.extract.formats import streams
 from exifnorm_pictures.files.session import Session
 from exifnorm_pictures.model import found, rest
@@ -112,7 +112,7 @@ def test_the_parts_cover_a_damaged_file(name, chance):
 def seen(octets):
     """All that is compared of a file."""
     try:
-        if (read := extraction.reader_of(octets[: extraction.HEAD], b"")) is None:
+        if (read := readers.reader_of(octets[: readers.HEAD], b"")) is None:
             return "another format"
         blocks = read(io.BytesIO(octets), False)
     except Broken as why:
@@ -232,7 +232,7 @@ def test_without_pixels_a_part_is_known_by_its_length(name, folder, called):
 
 def names_met(octets):
     """The names of the rest of a file whose lengths a reader of metadata meets, or of parts that it names."""
-    blocks = extraction.reader_of(octets[: extraction.HEAD], b"")(io.BytesIO(octets), False)
+    blocks = readers.reader_of(octets[: readers.HEAD], b"")(io.BytesIO(octets), False)
     return {it.partition(" (")[0] for it in (*blocks.rest, *(part.what for part in blocks.not_read))}
 
 
@@ -335,7 +335,7 @@ def test_a_part_that_is_too_large_is_never_equal(folder, called, monkeypatch):
 def test_a_picture_with_as_many_chunks_as_may_be(name, folder, called, monkeypatch):
     """It is compared as a whole. With one more it isn't read, and nobody says that its format isn't."""
     octets = FILES[name]
-    left = extraction.reader_of(octets[: extraction.HEAD], b"")(io.BytesIO(octets), False).budget.left
+    left = readers.reader_of(octets[: readers.HEAD], b"")(io.BytesIO(octets), False).budget.left
     count = found.LIMITS[found.CHUNKS] - left[found.CHUNKS]
     put(folder, {"a": octets, "b": octets.replace(b"video", b"other")})
     monkeypatch.setitem(found.LIMITS, found.CHUNKS, count)

@@ -225,6 +225,7 @@ class Scale(WithPictures):
             "catalogue.kept_texts",
             "comparison.changed.states",
             "comparison.same.groups",
+            "extract.readers",
             "refusals.explain",
             "refusals.mend",
             "refusals.repairs",

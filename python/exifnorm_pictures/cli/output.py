@@ -28,8 +28,6 @@ if TYPE_CHECKING:
     from ..picture import Picture
     from .sheets import Sheet
 
-# The options of a command: a record for each group of them, made once from its line, which nobody changes.
-
 # The exit statuses of the command, as `--help` and the manual page list them. If several apply, the greatest counts.
 
 SUCCESS = 0  # done, or the same
@@ -50,6 +48,9 @@ class Least:
     """The least status of a run: what it finds on the way can raise it."""
 
     status = SUCCESS
+
+
+# The options of a command: a record for each group of them, made once from its line, which nobody changes.
 
 
 class Files(NamedTuple):

@@ -13,8 +13,6 @@ from enum import Enum, Flag, auto
 from types import TracebackType
 from typing import Any, ClassVar, Iterable, TypeVar
 
-# What a comparison finds: each result with its word, and what it says.
-
 # Fixed lists of words: a member of an enumeration that is its word.
 
 
@@ -154,6 +152,9 @@ AGAIN = _words(Follows.AGAIN)
 NEEDED = {problem.value: problem.program for problem in Problem if problem.program}
 TEXTS = {problem.value: problem.text for problem in Problem}
 COUNTED = {problem.value: problem.counted for problem in Problem}
+
+
+# What a comparison finds: each result with its word, and what it says.
 
 
 class Result(Word):
