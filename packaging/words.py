@@ -19,7 +19,7 @@ from exifnorm_pictures.comparison.changed import edits
 from exifnorm_pictures.extract import structure
 from exifnorm_pictures.extract.formats import heif, jpeg_segments, tiff, tiff_directories, trailers, webp
 from exifnorm_pictures.fields import labels, listing, names, plain_values, typed
-from exifnorm_pictures.model import found, tiff_types, xmp_names
+from exifnorm_pictures.model import budgets, found, tiff_types, xmp_names
 from exifnorm_pictures.model.texts import Result
 from exifnorm_pictures.refusals import causes
 
@@ -87,7 +87,7 @@ def of_formats() -> dict[str, Any]:
         "items": _words(heif.PICTURES),
         "boxes": _words(heif._WITHOUT),
         "boxesInMeta": _words({*heif.READERS, b"iprp", *heif._WITHOUT_IN_META}),
-        "limits": {name.replace(" ", "_"): most for name, most in found.LIMITS.items()} | {"packet": found.PACKET_BYTES},
+        "limits": {name.replace(" ", "_"): most for name, most in budgets.LIMITS.items()} | {"packet": budgets.PACKET_BYTES},
     }
 
 

@@ -25,7 +25,7 @@ from exifnorm_pictures.catalogue.asking import Answer
 from exifnorm_pictures.catalogue.store import Catalogue
 from exifnorm_pictures.cli import main
 from exifnorm_pictures.fields.questions import LONGEST, question_of
-from exifnorm_pictures.model.texts import Problem
+from exifnorm_pictures.model.problems import Problem
 
 AT_ONCE = 40  # names that are asked together
 GROUPS = ("-EXIF:all", "-IPTC:all", "-XMP:all")

@@ -12,7 +12,7 @@
 #endif
 
 #define FIRST 3072      /* bytes of an output that needs no allocation */
-#define LONGEST 500000  /* bytes of a form whose fields all are kept (model/found.py) */
+#define LONGEST 500000  /* bytes of a form whose fields all are kept (model/budgets.py) */
 #define DEEPEST 100     /* elements of a packet in one another */
 #define DIGITS 64       /* of SHA-256 */
 

@@ -20,8 +20,10 @@ from .fields.field import Field
 from .files import opening
 from .files.session import Session
 from .judge.judge import judge_all
-from .model.found import EXIF, NAMES, PROGRAM_SECONDS, Budget, TooMuch
-from .model.texts import Problem, Result
+from .model.budgets import PROGRAM_SECONDS, Budget, TooMuch
+from .model.found import EXIF, NAMES
+from .model.problems import Problem
+from .model.texts import Result
 from .model.records import PictureRecord, Stamp
 from .picture import Picture
 

@@ -15,7 +15,7 @@ from exifnorm import LibraryMissing
 
 from .api import NoPicture, NotReadable, PathLike, _Limits, _read
 from .files.session import Session, processors
-from .model.texts import Problem
+from .model.problems import Problem
 from .picture import Picture
 
 CHUNK = 8  # pictures that a process gets at once

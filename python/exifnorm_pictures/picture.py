@@ -17,7 +17,8 @@ from .fields.character_sets import in_found_set
 from .fields.names import spellings
 from .fields.listing import Shown
 from .judge.judge import judge_all
-from .model.found import EXIF, IPTC, NAMES, STANDARDS, XMP, Blocks, TooMuch, cut, not_known
+from .model.budgets import TooMuch
+from .model.found import EXIF, IPTC, NAMES, STANDARDS, XMP, Blocks, cut, not_known
 from .model.records import BlockRecord, PictureRecord
 from .model.steps import loses
 from .model.texts import Members, path_members

@@ -7,7 +7,7 @@ from unittest import mock
 
 import pytest
 
-from exifnorm_pictures.model import found as limits
+from exifnorm_pictures.model import budgets
 from exifnorm_pictures.model.found import Broken, LeftToOthers
 
 
@@ -30,7 +30,7 @@ class Format(NamedTuple):
 
 def stream_of(octets):
     """A stream with a budget of its own."""
-    return mock.Mock(wraps=io.BytesIO(octets), budget=limits.Budget())
+    return mock.Mock(wraps=io.BytesIO(octets), budget=budgets.Budget())
 
 
 def blocks_of(found):
@@ -55,12 +55,12 @@ def check_limit(read, octets, what, spent=None):
     """A file that needs just as much as a limit allows is read, and with one less it is not. `spent` is what the file needs, if that is known."""
     stream = stream_of(octets)
     found = read(stream).blocks
-    needed = limits.LIMITS[what] - stream.budget.left[what]
+    needed = budgets.LIMITS[what] - stream.budget.left[what]
     assert needed and spent in (needed, None), (what, needed)
-    with mock.patch.dict(limits.LIMITS, {what: needed}):
+    with mock.patch.dict(budgets.LIMITS, {what: needed}):
         assert read(stream_of(octets)).blocks == found
-    with mock.patch.dict(limits.LIMITS, {what: needed - 1}):
-        with pytest.raises(limits.TooMuch, match=f"more than {needed - 1} {what}"):
+    with mock.patch.dict(budgets.LIMITS, {what: needed - 1}):
+        with pytest.raises(budgets.TooMuch, match=f"more than {needed - 1} {what}"):
             read(stream_of(octets))
 
 
@@ -68,5 +68,5 @@ def blocks_in(read, octets):
     """The blocks that a reader finds in a file with changed bytes; none where it gives a reason."""
     try:
         return [it.data for it in read(io.BytesIO(octets)).blocks]
-    except (Broken, LeftToOthers, limits.TooMuch):
+    except (Broken, LeftToOthers, budgets.TooMuch):
         return []

@@ -31,7 +31,7 @@ from made_more_files import application, gif, gif_xmp, psd
 from made_raw import fuji
 from studio import SMALL_JPEG
 
-from exifnorm_pictures.model import found
+from exifnorm_pictures.model import budgets
 
 BYTE = 1
 EXIF, IPTC, XMP = KINDS = ("exif", "iptc", "xmp")  # as `show --json` names them
@@ -381,13 +381,13 @@ def one_packet(number, mark):
 def one_record(number, mark):
     """As many pages as the record has keywords, which all of them share. As many are shown as a command shows of one picture."""
     record = b"".join(iim(b"%s%d" % (mark, it)) for it in range(number))
-    return Whole(sharing(record, number, 0x83BB, BYTE), {IPTC: min(number * number, found.SHOWN_FIELDS)})
+    return Whole(sharing(record, number, 0x83BB, BYTE), {IPTC: min(number * number, budgets.SHOWN_FIELDS)})
 
 
 def one_packet_of_many(number, mark):
     """As many pages as the packet has properties, which all of them share."""
     packet = xmp("".join(f"<dc:a{it}>{mark.decode()}</dc:a{it}>" for it in range(number)))
-    return Whole(sharing(packet, number, 0x02BC, BYTE), {XMP: min(number * number, found.SHOWN_FIELDS)})
+    return Whole(sharing(packet, number, 0x02BC, BYTE), {XMP: min(number * number, budgets.SHOWN_FIELDS)})
 
 
 def texts_as_long_as_many(number, mark):

@@ -9,7 +9,7 @@ from made_blocks import ASCII, segment
 from made_files import app1_xmp, extension, iim, jpeg, raf, xmp
 from made_raw import fuji
 
-from exifnorm_pictures.model import found
+from exifnorm_pictures.model import budgets
 
 MEGABYTE = 1 << 20
 BLOCK = 16 * MEGABYTE - 32_768  # bytes of the values of a block, which is a little longer
@@ -52,20 +52,20 @@ _THREE = (BLOCK, BLOCK, (BLOCK - MEGABYTE,))  # blocks in 48 MB, with the heads 
 _IN_40 = (BLOCK, BLOCK, (7 * MEGABYTE,))
 _WITHOUT_RECORD = (BLOCK, 0, (BLOCK, BLOCK - MEGABYTE))
 SIZES: Dict[str, Size] = {
-    "JPEG": Size(found.LIMITS[found.SEGMENT_BYTES], *_IN_40),
-    "PNG": Size(found.LIMITS[found.CHUNK_BYTES], BLOCK // 2, 4 * MEGABYTE, (BLOCK // 2, BLOCK // 2)),
-    "WebP": Size(found.LIMITS[found.CHUNK_BYTES], BLOCK, 0, (BLOCK,)),
-    "TIFF; DNG, CR2, NEF, PEF, ARW, SRW": Size(found.LIMITS[found.VALUE_BYTES], *_IN_40),
-    "ORF, RW2": Size(found.LIMITS[found.VALUE_BYTES], *_IN_40),
-    "RAF": Size(found.LIMITS[found.SEGMENT_BYTES], *_IN_40),
-    "HEIC, HEIF, AVIF": Size(found.LIMITS[found.BOX_BYTES], *_WITHOUT_RECORD),
-    "CR3": Size(found.LIMITS[found.BOX_BYTES], *_WITHOUT_RECORD),
-    "PSD, PSB": Size(found.LIMITS[found.RESOURCE_BYTES], *_THREE),
-    "JPEG XL": Size(found.LIMITS[found.BOX_BYTES], *_WITHOUT_RECORD),
-    "JPEG 2000": Size(found.LIMITS[found.BOX_BYTES], *_THREE),
-    "GIF": Size(found.LIMITS[found.BLOCK_BYTES], BLOCK // 2, BLOCK // 2, (BLOCK // 2, BLOCK // 2 - MEGABYTE)),
-    "BigTIFF": Size(found.LIMITS[found.VALUE_BYTES], *_IN_40),
-    "NAME.xmp": Size(found.PACKET_BYTES, 0, 0, (BLOCK,)),
+    "JPEG": Size(budgets.LIMITS[budgets.SEGMENT_BYTES], *_IN_40),
+    "PNG": Size(budgets.LIMITS[budgets.CHUNK_BYTES], BLOCK // 2, 4 * MEGABYTE, (BLOCK // 2, BLOCK // 2)),
+    "WebP": Size(budgets.LIMITS[budgets.CHUNK_BYTES], BLOCK, 0, (BLOCK,)),
+    "TIFF; DNG, CR2, NEF, PEF, ARW, SRW": Size(budgets.LIMITS[budgets.VALUE_BYTES], *_IN_40),
+    "ORF, RW2": Size(budgets.LIMITS[budgets.VALUE_BYTES], *_IN_40),
+    "RAF": Size(budgets.LIMITS[budgets.SEGMENT_BYTES], *_IN_40),
+    "HEIC, HEIF, AVIF": Size(budgets.LIMITS[budgets.BOX_BYTES], *_WITHOUT_RECORD),
+    "CR3": Size(budgets.LIMITS[budgets.BOX_BYTES], *_WITHOUT_RECORD),
+    "PSD, PSB": Size(budgets.LIMITS[budgets.RESOURCE_BYTES], *_THREE),
+    "JPEG XL": Size(budgets.LIMITS[budgets.BOX_BYTES], *_WITHOUT_RECORD),
+    "JPEG 2000": Size(budgets.LIMITS[budgets.BOX_BYTES], *_THREE),
+    "GIF": Size(budgets.LIMITS[budgets.BLOCK_BYTES], BLOCK // 2, BLOCK // 2, (BLOCK // 2, BLOCK // 2 - MEGABYTE)),
+    "BigTIFF": Size(budgets.LIMITS[budgets.VALUE_BYTES], *_IN_40),
+    "NAME.xmp": Size(budgets.PACKET_BYTES, 0, 0, (BLOCK,)),
 }
 
 
@@ -84,7 +84,7 @@ def of_long_values(size: Size) -> Parts:
 def of_many_fields(size: Size) -> Parts:
     """Blocks of as many fields as may be, each of a few bytes."""
     entries = tuple((0x1000 + it, ASCII, b"abc\0") for it in range(60_000 // size.scale)) if size.exif else ((0x010F, ASCII, b"Abc\0"),)
-    number = found.LIMITS[found.XMP_TAGS] // size.scale // 2 // max(1, len(size.packets)) - 10
+    number = budgets.LIMITS[budgets.XMP_TAGS] // size.scale // 2 // max(1, len(size.packets)) - 10
     packets = tuple(xmp("".join(f"<dc:a{at}>{it}</dc:a{at}>" for at in range(number))) for it in range(len(size.packets)))
     return Parts(entries, iim(b"a") * (size.record // 6), packets)
 
@@ -92,7 +92,7 @@ def of_many_fields(size: Size) -> Parts:
 def of_many_parts(size: Size) -> Parts:
     """As many small parts and packets as may be, and a packet with as many texts of one property."""
     number = 9000 // size.scale
-    texts = "".join(f"<rdf:li>{it}</rdf:li>" for it in range(found.LIMITS[found.XMP_TAGS] // size.scale // 2 - 10 * number))
+    texts = "".join(f"<rdf:li>{it}</rdf:li>" for it in range(budgets.LIMITS[budgets.XMP_TAGS] // size.scale // 2 - 10 * number))
     packets = (
         xmp(f"<dc:subject><rdf:Bag>{texts}</rdf:Bag></dc:subject>"),
         *(xmp(f"<dc:format>{it}</dc:format>") for it in range(number // 10)),

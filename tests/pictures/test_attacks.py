@@ -63,7 +63,7 @@ def limits():
 
 
 # Then the limits of what is counted end a picture, and not that of time, at which a slow machine comes first.
-NO_CLOCK = "from exifnorm_pictures.model import found\nfound.SECONDS = 3600.0\n"
+NO_CLOCK = "from exifnorm_pictures.model import budgets\nbudgets.SECONDS = 3600.0\n"
 
 
 class Ended:

@@ -13,7 +13,7 @@ from studio import needs, run, write
 
 from exifnorm_pictures.extract import coded_picture
 from exifnorm_pictures.extract.formats.tiff import read_big
-from exifnorm_pictures.model import found as limits
+from exifnorm_pictures.model import budgets
 
 LONG8, SLONG8, IFD8 = 16, 17, 18
 SIZES = {1: 1, ASCII: 1, SHORT: 2, LONG: 4, 5: 8, UNDEFINED: 1, 9: 4, 13: 4, LONG8: 8, SLONG8: 8, IFD8: 8}
@@ -137,14 +137,14 @@ def test_a_file_with_a_hole(tmp_path):
 
     found = extraction.blocks_of_file(os.fsencode(name))
     assert [it.name for it in found.blocks] == ["Exif"] and b"Anna\0" in found.blocks[0].data and at
-    assert coded_picture.of_file(os.fsencode(name), limits.Budget()).digest != ""
+    assert coded_picture.of_file(os.fsencode(name), budgets.Budget()).digest != ""
 
 
 def test_many_entries(monkeypatch):
-    monkeypatch.setattr(limits, "SECONDS", 600.0)  # a slow processor reaches that limit first
+    monkeypatch.setattr(budgets, "SECONDS", 600.0)  # a slow processor reaches that limit first
     entries = b"".join(struct.pack("<HHQ8s", 0xC000, SHORT, 1, b"") for _ in range(1000))
     parts = [struct.pack("<Q", 1000) + entries + struct.pack("<Q", 16 + (number + 1) * (16 + len(entries))) for number in range(1001)]
-    with pytest.raises(limits.TooMuch, match="entries of directories"):
+    with pytest.raises(budgets.TooMuch, match="entries of directories"):
         read_big(io.BytesIO(b"II+\0\x08\0\0\0" + struct.pack("<Q", 16) + b"".join(parts)))
 
 
@@ -190,12 +190,12 @@ def test_the_coded_picture():
     strips = (0x0111, LONG8, (16, 20)), (0x0117, LONG8, (4, 4))
     files = [big(fields(*strips), gap=b"abcdefgh"), big(fields(*strips), gap=b"abcdefgi")]
     files.append(big(fields(*strips, (0x013B, ASCII, b"Otto\0")), gap=b"abcdefgh", behind=b"trailer"))
-    digests = [coded_picture.followed(io.BytesIO(it), limits.Budget())[0] for it in files]
+    digests = [coded_picture.followed(io.BytesIO(it), budgets.Budget())[0] for it in files]
     assert digests[0] == digests[2] != digests[1] and all(digests)
 
 
 def test_where_one_strip_ends():
     """The same bytes in strips of other lengths are other strips: each is decoded by itself."""
     files = [big(fields((0x0111, LONG, (16, at)), (0x0117, LONG, (at - 16, 24 - at))), gap=b"abcdefgh") for at in (20, 21)]
-    one, other = (coded_picture.followed(io.BytesIO(it), limits.Budget())[0] for it in files)
+    one, other = (coded_picture.followed(io.BytesIO(it), budgets.Budget())[0] for it in files)
     assert one != other and one and other

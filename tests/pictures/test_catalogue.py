@@ -12,7 +12,7 @@ from in_process import InFolder
 from made_blocks import MAKE, block, with_exif
 from studio import SMALL_JPEG, Studio, WithPictures, needs, put, read, run, write
 
-from exifnorm_pictures.model.texts import TEXTS
+from exifnorm_pictures.model.problems import TEXTS
 
 ONE, OTHER, THIRD = (with_exif(SMALL_JPEG, block([MAKE[:-4] + it])) for it in (b"One\0", b"Two\0", b"Ten\0"))
 EXV = b"\xff\x01Exiv2\xff\xd9"  # exiv2's own format, which has no reader here

@@ -18,7 +18,7 @@ import exifnorm
 from exifnorm_pictures.cli.parser import parsers
 from exifnorm_pictures.extract import exiftool, programs
 from exifnorm_pictures.files import session
-from exifnorm_pictures.model import found as limits
+from exifnorm_pictures.model import budgets
 from exifnorm_pictures.model.found import UNREAD_NOTES, UNREAD_TRAILER
 from exifnorm_pictures.report import small_pictures
 
@@ -72,19 +72,19 @@ def test_all_commands_are_tried():
 def ended(folder, monkeypatch):
     """The budgets whose clock has ended a picture. Each look at a clock is a second later than the last one, so that it ends what looks often, on
     any machine. The other programs aren't there."""
-    seconds, check_time, budgets_ended = itertools.count(), limits.Budget.check_time, []
+    seconds, check_time, budgets_ended = itertools.count(), budgets.Budget.check_time, []
 
     def check(budget):
         try:
             check_time(budget)
-        except limits.TooLong:
+        except budgets.TooLong:
             budgets_ended.append(budget)
             raise
 
     monkeypatch.setenv("PATH", "/nowhere")
     monkeypatch.setattr(small_pictures.Shrinker, "_answer", lambda *_: b"")
-    monkeypatch.setattr(limits.time, "thread_time", lambda: next(seconds))
-    monkeypatch.setattr(limits.Budget, "check_time", check)
+    monkeypatch.setattr(budgets.time, "thread_time", lambda: next(seconds))
+    monkeypatch.setattr(budgets.Budget, "check_time", check)
     return budgets_ended
 
 
@@ -245,7 +245,7 @@ def test_an_exiftool_without_end(end, called, folder, monkeypatch):
         status, out, messages = called(*words, "--limit", "4")
         assert status == 2 and "internal" not in out + messages, (words, out, messages)
     found = sql_rows("c", "SELECT problem, detail FROM pictures ORDER BY path")
-    due = ("ToolFailed", f"exiftool wrote more than {limits.OUTPUT:,} bytes about one file")
+    due = ("ToolFailed", f"exiftool wrote more than {budgets.OUTPUT:,} bytes about one file")
     assert found == [due if end == "long" else ("TooSlow", "exiftool took longer than 4 seconds"), (None, "")]
 
 

@@ -22,7 +22,8 @@ from studio import SMALL_JPEG, needs, put, tool, write
 
 from exifnorm_pictures.catalogue.store import Catalogue
 from exifnorm_pictures.extract import coded_picture
-from exifnorm_pictures.model.found import BYTES_READ, Broken, Budget, TooMuch
+from exifnorm_pictures.model.budgets import BYTES_READ, Budget, TooMuch
+from exifnorm_pictures.model.found import Broken
 
 T, K = title("one"), iim(b"one")
 

@@ -20,7 +20,7 @@ from studio import needs, run
 from exifnorm_pictures.extract import extraction, structure
 from exifnorm_pictures.extract.formats import cr3 as cr3_, jpeg as jpeg_
 from exifnorm_pictures.judge import judge
-from exifnorm_pictures.model import found
+from exifnorm_pictures.model import budgets
 from exifnorm_pictures.model.found import LeftToOthers
 
 T, U = title("one"), title("two")
@@ -211,7 +211,7 @@ def test_exiv2(tmp_path):
     assert said == ["Lena Brandt", "200"]
 
 
-@pytest.mark.parametrize("what, spent", [(found.BOXES, 40), (found.EXTENTS, 2), (found.BOX_BYTES, None)])
+@pytest.mark.parametrize("what, spent", [(budgets.BOXES, 40), (budgets.EXTENTS, 2), (budgets.BOX_BYTES, None)])
 def test_limits(what, spent):
     check_limit(cr3_.read, WHOLE, what, spent)
 

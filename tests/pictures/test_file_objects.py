@@ -17,7 +17,7 @@ from studio import TOP, needs
 from test_api import FORMATS
 
 from exifnorm import pictures
-from exifnorm_pictures.model.found import COPIED_BYTES, LIMITS
+from exifnorm_pictures.model.budgets import COPIED_BYTES, LIMITS
 
 BOWL = Path(TOP) / "samples/before/ceramics/2003-12-bowl.jpg"
 HOLE = 8 << 30

@@ -42,7 +42,7 @@ from made_raw import arw, camera_profile, dng, rw2, sony, whole_raf
 from studio import SMALL_JPEG, WithPictures, interpreter_with, needs, put, read, run, tool, write
 
 from exifnorm_pictures.extract.formats import jpeg_tail
-from exifnorm_pictures.model import found
+from exifnorm_pictures.model import budgets
 from exifnorm_pictures.model.found import Broken, LeftToOthers
 
 CUT = "the rest of a damaged file (the file ends before its first scan, at {})"
@@ -371,7 +371,7 @@ class Harm(unittest.TestCase):
     """Files made to cost time or memory: what is read of them is counted."""
 
     def setUp(self):
-        clock = mock.patch.object(found, "SECONDS", 3600.0)  # a slow machine comes first to that limit
+        clock = mock.patch.object(budgets, "SECONDS", 3600.0)  # a slow machine comes first to that limit
         clock.start()
         self.addCleanup(clock.stop)
 
@@ -387,7 +387,7 @@ class Harm(unittest.TestCase):
     def too_much(self, octets, what, most=None):
         """The limit ends the reading of a file, and no other program reads it."""
         stream = Counting(octets)
-        with self.assertRaisesRegex(found.TooMuch, f"^more than [0-9,]+ {what}$"):
+        with self.assertRaisesRegex(budgets.TooMuch, f"^more than [0-9,]+ {what}$"):
             reader_of(octets)(stream, True)
         self.assertLess(stream.octets, (most or 4 * len(octets)) + 4096)
 
@@ -409,12 +409,12 @@ class Harm(unittest.TestCase):
         self.assertIn("shares bytes with a directory", self.broken(bytes(value)))
 
     def test_many_markers(self):
-        self.too_much(b"\xff\xd8" + b"\xff\xfe\0\2" * 100_001, found.SEGMENTS)
-        self.too_much(b"\xff\xd8" + b"\xff\x01" * 100_001, found.SEGMENTS)
-        self.too_much(b"\xff\xd8" + b"\xff\xe1\0\2" * 20_000 + b"\xff\xd9", found.NOT_READ)
+        self.too_much(b"\xff\xd8" + b"\xff\xfe\0\2" * 100_001, budgets.SEGMENTS)
+        self.too_much(b"\xff\xd8" + b"\xff\x01" * 100_001, budgets.SEGMENTS)
+        self.too_much(b"\xff\xd8" + b"\xff\xe1\0\2" * 20_000 + b"\xff\xd9", budgets.NOT_READ)
         self.broken(b"\xff\xd8" + b"\xff" * 200_000)
-        with mock.patch.dict(found.LIMITS, {found.SEGMENT_BYTES: 100_000}):
-            self.too_much(b"\xff\xd8" + b"\xff" * 200_000, found.SEGMENT_BYTES)
+        with mock.patch.dict(budgets.LIMITS, {budgets.SEGMENT_BYTES: 100_000}):
+            self.too_much(b"\xff\xd8" + b"\xff" * 200_000, budgets.SEGMENT_BYTES)
         many = SMALL_JPEG[:-2] + b"\xff\xc0\0\2" * 200_000
         stream = Counting(many)
         self.assertEqual(reader_of(many)(stream, True).blocks, [])
@@ -434,18 +434,18 @@ class Harm(unittest.TestCase):
                 self.assertEqual(len(reader_of(octets)(stream, True).blocks), 400)
                 self.assertLess(stream.octets, 2 * len(octets))
             else:
-                self.too_much(bytes(octets), found.VALUE_BYTES, most=130 << 20)
+                self.too_much(bytes(octets), budgets.VALUE_BYTES, most=130 << 20)
 
     def test_compressed_texts_that_are_too_long(self):
-        half = chunk(b"zTXt", b"Raw profile type exif\0\0" + zlib.compress(bytes(found.LIMITS[found.CHUNK_BYTES] // 2), 9))
+        half = chunk(b"zTXt", b"Raw profile type exif\0\0" + zlib.compress(bytes(budgets.LIMITS[budgets.CHUNK_BYTES] // 2), 9))
         self.assertIn("cannot be read", found_in(png(half)).not_read[0].what, "zeros are no profile")
-        self.too_much(png(half, half, half), found.CHUNK_BYTES)
-        self.too_much(png(chunk(b"zTXt", b"Raw profile type exif\0\0" + packed_zeros(1024))), found.CHUNK_BYTES)
+        self.too_much(png(half, half, half), budgets.CHUNK_BYTES)
+        self.too_much(png(chunk(b"zTXt", b"Raw profile type exif\0\0" + packed_zeros(1024))), budgets.CHUNK_BYTES)
 
     def test_an_index_of_pictures_in_one_another(self):
         inner = jpeg(*[app1_xmp(b"x" * 60000)] * 20)
         octets = mpf(app1(A), *[inner] * 60)
-        self.too_much(octets, found.SEGMENT_BYTES, most=2 * len(octets))
+        self.too_much(octets, budgets.SEGMENT_BYTES, most=2 * len(octets))
 
 
 class Opened(WithPictures):

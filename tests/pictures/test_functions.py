@@ -16,7 +16,7 @@ from studio import name_of
 from exifnorm_pictures import xmp
 from exifnorm_pictures.cli import names, output, parser
 from exifnorm_pictures.cli.commands import nightly, report
-from exifnorm_pictures.cli.output import Files
+from exifnorm_pictures.cli.options import Files
 from exifnorm_pictures.comparison import wording
 from exifnorm_pictures.extract import exiftool, programs
 from exifnorm_pictures.fields import listing, plain_texts, xmp_properties

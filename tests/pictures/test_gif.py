@@ -10,7 +10,7 @@ from pairs import DIFFERENT, SAME, UNDECIDED
 from studio import needs, put
 
 from exifnorm_pictures.extract.formats import gif as gif_
-from exifnorm_pictures.model import found
+from exifnorm_pictures.model import budgets
 
 A, K, L, T, U = exif(b"Abc"), iim(b"one"), iim(b"k" * 600), title("one"), title("two")
 X, I = gif_xmp(T), application(b"MGKIPTC0000", K)
@@ -74,7 +74,7 @@ def test_exiftools_blocks(tmp_path):
 
 
 def test_limits():
-    for what, spent in ((found.EXTENSIONS, 4), (found.BLOCK_BYTES, len(K) + len(T))):
+    for what, spent in ((budgets.EXTENSIONS, 4), (budgets.BLOCK_BYTES, len(K) + len(T))):
         check_limit(gif_.read, gif(I, COMMENT, application(b"XMP DataXMP", T)), what, spent)
 
 

@@ -18,7 +18,7 @@ from studio import needs, put
 
 from exifnorm_pictures.extract import extraction
 from exifnorm_pictures.extract.formats import heif as heif_
-from exifnorm_pictures.model import found as limits
+from exifnorm_pictures.model import budgets
 
 A, B, C, T, U = exif(b"Abc"), exif(b"Xyz"), exif(b"Pqr"), title("one"), title("two")
 
@@ -196,7 +196,7 @@ def test_offsets_past_4_gb(tmp_path):
 
 def test_limits():
     """Boxes, items, their parts, and the bytes of boxes: up to a limit, and not one more."""
-    for what, spent in {limits.BOXES: 18, limits.ITEMS: 3, limits.EXTENTS: 8, limits.BOX_BYTES: None}.items():
+    for what, spent in {budgets.BOXES: 18, budgets.ITEMS: 3, budgets.EXTENTS: 8, budgets.BOX_BYTES: None}.items():
         check_limit(heif_.read, heif(*ONE), what, spent)
 
 
@@ -205,8 +205,8 @@ def test_items_that_share_bytes():
     shared = heif(PICTURE, *[Item(b"abcd", b"x" * 1000)] * 3, behind=box(b"free", b"x" * 4000))
     stream = stream_of(shared)
     found = heif_.read(stream)
-    assert limits.LIMITS[limits.BYTES_READ] - stream.budget.left[limits.BYTES_READ] == 3000
-    with mock.patch.object(limits, "UNREAD_BYTES", 999):
+    assert budgets.LIMITS[budgets.BYTES_READ] - stream.budget.left[budgets.BYTES_READ] == 3000
+    with mock.patch.object(budgets, "UNREAD_BYTES", 999):
         assert [it.digest for it in heif_.read(io.BytesIO(shared)).not_read] == [""] * 3
     assert all(it.digest for it in found.not_read)
 

@@ -12,7 +12,7 @@ from pairs import DIFFERENT, SAME, UNDECIDED
 from studio import needs, put
 
 from exifnorm_pictures.extract.formats import jp2 as jp2_
-from exifnorm_pictures.model import found
+from exifnorm_pictures.model import budgets
 from exifnorm_pictures.model.found import FEW
 
 A, B, K, L, T, U = exif(b"Abc"), exif(b"Xyz"), iim(b"one"), iim(b"four"), title("one"), title("two")
@@ -100,9 +100,9 @@ def test_exiv2(tmp_path):
 
 
 def test_limits():
-    for what, spent in ((found.BOXES, 9), (found.BOX_BYTES, len(A + K + T))):
+    for what, spent in ((budgets.BOXES, 9), (budgets.BOX_BYTES, len(A + K + T))):
         check_limit(jp2_.read, jp2(E, I, X), what, spent)
-    check_limit(jp2_.read, jp2(*[uuid(GEOTIFF, GEO + b"more")] * (FEW + 2)), found.NOT_READ, 2)
+    check_limit(jp2_.read, jp2(*[uuid(GEOTIFF, GEO + b"more")] * (FEW + 2)), budgets.NOT_READ, 2)
 
 
 WHOLE = jp2(E, uuid(PHOTOSHOP, resource(0x0404, L)), I, box(b"xml ", b"<gml/>"), in_header=X, behind=box(b"xml ", U))

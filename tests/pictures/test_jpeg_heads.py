@@ -23,7 +23,8 @@ from exifnorm_pictures.extract.formats import jpeg as jpeg_
 from exifnorm_pictures.judge import judge
 from exifnorm_pictures.files.session import Session
 from exifnorm_pictures.model import verdicts
-from exifnorm_pictures.model.found import EXIF, IPTC, Blocks, Broken, Budget
+from exifnorm_pictures.model.budgets import Budget
+from exifnorm_pictures.model.found import EXIF, IPTC, Blocks, Broken
 from exifnorm_pictures.model.texts import Result
 from exifnorm_pictures.model.records import side_of
 from exifnorm_pictures.scan import looking

@@ -11,7 +11,7 @@ from studio import needs, put
 
 from exifnorm_pictures.extract.formats import jxl as jxl_
 from exifnorm_pictures.judge import judge
-from exifnorm_pictures.model import found
+from exifnorm_pictures.model import budgets
 from exifnorm_pictures.refusals import explain
 
 A, B, T, U = exif(b"Abc"), exif(b"Xyz"), title("one"), title("two")
@@ -87,7 +87,7 @@ def test_exiftools_blocks(tmp_path):
 
 
 def test_limits():
-    for what, spent in ((found.BOXES, 5), (found.BOX_BYTES, 4 + len(A) + len(T))):
+    for what, spent in ((budgets.BOXES, 5), (budgets.BOX_BYTES, 4 + len(A) + len(T))):
         check_limit(jxl_.read, jxl(E, X), what, spent)
 
 

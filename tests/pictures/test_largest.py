@@ -21,14 +21,14 @@ from test_captions import data_set
 
 from exifnorm import pictures
 from exifnorm_pictures.cli.parser import parsers
-from exifnorm_pictures.model import found
+from exifnorm_pictures.model import budgets
 
 MEMORY, SCALE = 256 << 20, 8
 SMALL = "\n".join(
     [
         NO_CLOCK,
-        f"found.LIMITS.update({{what: most // {SCALE} for what, most in found.LIMITS.items()}})",
-        *(f"found.{name} //= {SCALE}" for name, value in vars(found).items() if name.isupper() and type(value) is int and value > 9999),
+        f"budgets.LIMITS.update({{what: most // {SCALE} for what, most in budgets.LIMITS.items()}})",
+        *(f"budgets.{name} //= {SCALE}" for name, value in vars(budgets).items() if name.isupper() and type(value) is int and value > 9999),
         "",
     ]
 )
@@ -143,12 +143,12 @@ def test_nothing_of_a_picture_stays(name, folder, called):
 
 def many_records(number):
     """A PSD of many records, each with as many DataSets as are kept of one."""
-    return psd(*(resource(0x0404, iim(b"a") * (found.FIELDS // SCALE - 1) + iim(b"%d" % it)) for it in range(number)))
+    return psd(*(resource(0x0404, iim(b"a") * (budgets.FIELDS // SCALE - 1) + iim(b"%d" % it)) for it in range(number)))
 
 
 def many_values(tag, pages):
     """A TIFF of pages with a tenth each of the entries that a picture may have, each with a value of its own."""
-    number = found.LIMITS[found.ENTRIES] // SCALE // 10
+    number = budgets.LIMITS[budgets.ENTRIES] // SCALE // 10
     return tiff(*(page(*((tag, SHORT, b"%08d" % (number * it + at)) for at in range(number))) for it in range(pages)))
 
 

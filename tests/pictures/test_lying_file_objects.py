@@ -14,7 +14,7 @@ from test_file_objects import facts
 
 from exifnorm import pictures
 from exifnorm_pictures.extract.file_objects import PIECES
-from exifnorm_pictures.model.found import BYTES_READ, COPIED_BYTES, LIMITS
+from exifnorm_pictures.model.budgets import BYTES_READ, COPIED_BYTES, LIMITS
 
 PICTURES = {
     "jpg": jpeg(app1(exif(b"Abc"))),
@@ -239,7 +239,7 @@ def test_one_that_never_ends(name, length, seeks, tmp_path, monkeypatch):
 def test_the_clock_is_looked_at_between_small_pieces(monkeypatch):
     """One that returns a byte at a time is read as long as the picture's clock runs, and no longer."""
     ticks = itertools.count()
-    monkeypatch.setattr("exifnorm_pictures.model.found.time.thread_time", lambda: next(ticks) / 5)
+    monkeypatch.setattr("exifnorm_pictures.model.budgets.time.thread_time", lambda: next(ticks) / 5)
     file = Endless(PICTURES["jpg"], 1 << 30, 1, True)
     with pytest.raises(pictures.NotReadable, match="seconds of a processor"):
         pictures.read(file)

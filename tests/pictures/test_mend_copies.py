@@ -9,7 +9,7 @@ from studio import SMALL_JPEG, put
 from test_repairs import REFUSED
 
 from exifnorm_pictures.files import copying
-from exifnorm_pictures.model import found
+from exifnorm_pictures.model import budgets
 from exifnorm_pictures.refusals import mend
 
 GOOD, BAD = SMALL_JPEG, with_exif(SMALL_JPEG, REFUSED["unsorted"])
@@ -76,7 +76,7 @@ def test_a_file_that_becomes_shorter(folder):
 def test_too_long_to_be_mended(called, folder, holes):
     """No remedy is tried, and nothing is written. A plain copy has no limit."""
     (folder / "a.jpg").write_bytes(BAD)
-    os.truncate(folder / "a.jpg", found.MENDED_BYTES + 1)
+    os.truncate(folder / "a.jpg", budgets.MENDED_BYTES + 1)
     status, printed, _ = called("mend", "a.jpg", "b.jpg", "--json")
     assert status == 2 and '"problem": "TooMuch"' in printed and not (folder / "b.jpg").exists()
 

@@ -12,7 +12,7 @@ from studio import needs
 
 import exifnorm
 from exifnorm_pictures.extract import file_objects
-from exifnorm_pictures.model import found
+from exifnorm_pictures.model import budgets, found
 from exifnorm_pictures.scan import progress
 
 pytestmark = pytest.mark.xdist_group("museum")
@@ -36,10 +36,10 @@ class NoSeeking(io.BytesIO):
 
 
 def source_of(path, what):
-    return NoSeeking(path.read_bytes()) if what == found.COPIED_BYTES else path
+    return NoSeeking(path.read_bytes()) if what == budgets.COPIED_BYTES else path
 
 
-class Counting(found.Budget):
+class Counting(budgets.Budget):
     """What a picture may cost where the small blocks and packets, of which nearly all pictures have one, are counted as well."""
 
     def __init__(self, *limits):
@@ -55,9 +55,9 @@ def test_each_limit_stops_a_picture(museum, monkeypatch):
     monkeypatch.setattr(found, "FEW", 0)  # the first blocks and parts aren't counted
     for module in ("model.found", "extract.formats.streams", "extract.file_objects", "api"):
         monkeypatch.setattr(f"exifnorm_pictures.{module}.Budget", Counting, raising=False)
-    for what in found.LIMITS:
+    for what in budgets.LIMITS:
         with monkeypatch.context() as patch:
-            patch.setitem(found.LIMITS, what, 0)
+            patch.setitem(budgets.LIMITS, what, 0)
             assert any(said(source_of(path, what)) != freely[path] for path in freely), f"0 {what}"
 
 

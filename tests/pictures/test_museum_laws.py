@@ -19,7 +19,7 @@ from museum import WHOLE, done, run
 from studio import counts_of_page, counts_of_summary, needs, not_the_same
 
 from exifnorm_pictures.cli import parser
-from exifnorm_pictures.model import found
+from exifnorm_pictures.model import budgets
 from exifnorm_pictures.scan import looking
 
 pytestmark = [pytest.mark.xdist_group("museum")]
@@ -263,7 +263,7 @@ def test_processes_keep_what_one_keeps(museum):
 
 def test_a_limit_is_named_by_each_command(museum, monkeypatch):
     """A picture that takes too long while its packets are judged: no command says that it has no metadata."""
-    monkeypatch.setattr(found, "SECONDS", -1)
+    monkeypatch.setattr(budgets, "SECONDS", -1)
     for words in ("show", "show --captions", "check", "explain", "index --catalogue new --jobs 1"):
         _, lines, messages = run(f"{words} archive/states/extended.jpg", museum)
         assert "more than -1 seconds of a processor" in "\n".join(lines + messages), (words, lines, messages)

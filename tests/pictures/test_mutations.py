@@ -19,7 +19,7 @@ from studio import Studio, needs, run, sql_rows, write
 from exifnorm_pictures.catalogue.store import Catalogue
 from exifnorm_pictures.comparison.same.group import Basis
 from exifnorm_pictures.comparison.same.groups import Groups
-from exifnorm_pictures.model import found as limits
+from exifnorm_pictures.model import budgets
 
 
 def exif():
@@ -301,5 +301,5 @@ def test_settings_of_sqlite(archive):
                 with pytest.raises(sqlite3.OperationalError, match="readonly"):
                     catalogue.base.execute("DELETE FROM pictures")
             if sys.version_info >= (3, 11):
-                assert catalogue.base.getlimit(sqlite3.SQLITE_LIMIT_LENGTH) == limits.ROW_BYTES
+                assert catalogue.base.getlimit(sqlite3.SQLITE_LIMIT_LENGTH) == budgets.ROW_BYTES
     assert sql_rows(archive / "c", "PRAGMA journal_mode")[0] == ("delete",), "a closed catalogue is one file"

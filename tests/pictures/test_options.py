@@ -11,9 +11,9 @@ from meanings import ASCII, UNDEFINED
 from studio import TOP, put
 
 from exifnorm_pictures.cli import parser
-from exifnorm_pictures.cli.output import Fields, Files, Least, Output, Run
+from exifnorm_pictures.cli.options import Fields, Files, Least, Output, Run
 from exifnorm_pictures.files.session import Session
-from exifnorm_pictures.model import found
+from exifnorm_pictures.model import budgets
 from exifnorm_pictures.scan import batches
 
 BOWL, PHONE = f"{TOP}/samples/before/ceramics/2003-12-bowl.jpg", f"{TOP}/samples/before/arrivals/IMG_20240502.jpg"
@@ -110,8 +110,8 @@ def test_the_time_limit_of_each_command(command, option, archive, called, monkey
 @pytest.mark.parametrize("command, option", WHOLE)
 def test_each_byte_is_read_by_each_command(command, option, archive, called, monkeypatch):
     """Of each picture that the command reads."""
-    read, budget = [], found.Budget.__init__
-    monkeypatch.setattr(found.Budget, "__init__", lambda self, whole=False: read.append(whole) or budget(self, whole))
+    read, budget = [], budgets.Budget.__init__
+    monkeypatch.setattr(budgets.Budget, "__init__", lambda self, whole=False: read.append(whole) or budget(self, whole))
     words = {"compare": ("p/a.jpg", "p/a.jpg"), "index": ("p", "--catalogue", "other"), "check": OF_CHECK}.get(command, COMMANDS[command])
     words = [*(it for it in words if it not in LISTED), *(["p/a.jpg"] * (words == LISTED))]
     called(*command.split(), *words)

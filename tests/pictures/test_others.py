@@ -13,7 +13,7 @@ from exifnorm_pictures.extract import exiftool, programs, readers
 from exifnorm_pictures.extract.formats import tiff
 from exifnorm_pictures.files.session import Session
 from exifnorm_pictures.model.found import Blocks, NotRead
-from exifnorm_pictures.model.texts import TEXTS
+from exifnorm_pictures.model.problems import TEXTS
 
 ASKED = ("-EXIF:Exif", "-IPTC:IPTC", "-XMP:XMP", "-FileType#", "-MIMEType#", "-Error#")
 # Files in the structure of TIFF, by ExifTool's list of file types

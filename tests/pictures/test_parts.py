@@ -20,8 +20,9 @@ from exifnorm_pictures.comparison import two_pictures
 from exifnorm_pictures.extract import coded_picture, readers
 from exifnorm_pictures.extract.formats import streams
 from exifnorm_pictures.files.session import Session
-from exifnorm_pictures.model import found, rest
-from exifnorm_pictures.model.found import Broken, Budget, TooMuch
+from exifnorm_pictures.model import budgets, rest
+from exifnorm_pictures.model.budgets import Budget, TooMuch
+from exifnorm_pictures.model.found import Broken
 from exifnorm_pictures.scan.batches import How
 
 A, T, K = exif(b"abc"), title("one"), iim(b"one")
@@ -321,7 +322,7 @@ def test_what_programs_write_by_themselves_is_named_and_is_no_news(name, folder,
 
 
 def test_a_part_that_is_too_large_is_never_equal(folder, called, monkeypatch):
-    monkeypatch.setattr(found, "UNREAD_BYTES", 100)
+    monkeypatch.setattr(budgets, "UNREAD_BYTES", 100)
     put(folder / "p", {"a": png(chunk(b"eXIf", A), chunk(b"prIv", b"a" * 101)), "b": png(chunk(b"eXIf", A), chunk(b"prIv", b"b" * 101))})
     status, printed, _ = called("compare", "p/a", "p/b")
     assert status == 2 and printed.endswith("Other parts of the files differ: prIv chunk too large to compare.\n")
@@ -336,12 +337,12 @@ def test_a_picture_with_as_many_chunks_as_may_be(name, folder, called, monkeypat
     """It is compared as a whole. With one more it isn't read, and nobody says that its format isn't."""
     octets = FILES[name]
     left = readers.reader_of(octets[: readers.HEAD], b"")(io.BytesIO(octets), False).budget.left
-    count = found.LIMITS[found.CHUNKS] - left[found.CHUNKS]
+    count = budgets.LIMITS[budgets.CHUNKS] - left[budgets.CHUNKS]
     put(folder, {"a": octets, "b": octets.replace(b"video", b"other")})
-    monkeypatch.setitem(found.LIMITS, found.CHUNKS, count)
+    monkeypatch.setitem(budgets.LIMITS, budgets.CHUNKS, count)
     status, printed, _ = called("compare", "a", "b")
     assert status in (1, 2) and printed.endswith("Other parts of the files differ: trailer changed.\n")
-    monkeypatch.setitem(found.LIMITS, found.CHUNKS, count - 1)
+    monkeypatch.setitem(budgets.LIMITS, budgets.CHUNKS, count - 1)
     status, printed, _ = called("compare", "a", "b")
     assert (status, "more than" in printed, "format" in printed) == (1, True, False), printed
 

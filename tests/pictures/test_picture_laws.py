@@ -12,7 +12,7 @@ from exifnorm_pictures.extract import extraction
 from exifnorm_pictures.extract.formats.streams import File
 from exifnorm_pictures.fields.labels import label_of_fields
 from exifnorm_pictures.files import opening
-from exifnorm_pictures.model.found import Budget
+from exifnorm_pictures.model.budgets import Budget
 from growing import FORMATS, Parts
 from hypothesis import HealthCheck, given, settings, strategies as st
 from made_blocks import ASCII, BLOCKS, with_exif

@@ -15,7 +15,7 @@ from studio import needs, put
 
 from exifnorm_pictures.extract import extraction
 from exifnorm_pictures.extract.formats import psd as psd_
-from exifnorm_pictures.model import found
+from exifnorm_pictures.model import budgets
 
 A, B, K, L, T, U = exif(b"Abc"), exif(b"Xyz"), iim(b"one"), iim(b"four"), title("one"), title("two")
 E, I, X = resource(0x0422, A), resource(0x0404, K), resource(0x0424, T)
@@ -118,7 +118,7 @@ def test_layers_past_4_gb(tmp_path):
     assert [tuple(it) for it in found.not_read] == [("Photoshop's layers", "")]
 
 
-@pytest.mark.parametrize("what, spent", [(found.RESOURCES, 5), (found.RESOURCE_BYTES, len(A + K + T))])
+@pytest.mark.parametrize("what, spent", [(budgets.RESOURCES, 5), (budgets.RESOURCE_BYTES, len(A + K + T))])
 def test_limits(what, spent):
     check_limit(psd_.read, READ["all"][0], what, spent)
 

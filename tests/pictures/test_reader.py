@@ -17,7 +17,7 @@ from test_api import BEFORE, BOWL, FORMATS, Unseekable, facts
 
 from exifnorm import pictures
 from exifnorm_pictures.files import session
-from exifnorm_pictures.model import found as limits
+from exifnorm_pictures.model import budgets
 
 # Each event by which Python starts a process
 WATCHED = """
@@ -120,7 +120,7 @@ def slow_body(data):
 @pytest.mark.parametrize("source", [Slow, slow_body])
 def test_a_limit_of_time(source, monkeypatch):
     clock = SimpleNamespace(monotonic=lambda: Slow.now, thread_time=time.thread_time)
-    for module in (limits, session):
+    for module in (budgets, session):
         monkeypatch.setattr(module, "time", clock)
     with pictures.Reader(programs=False, seconds=0.1) as reader:
         with pytest.raises(pictures.NotReadable, match="more than 0.1 seconds") as raised:

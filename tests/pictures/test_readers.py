@@ -36,7 +36,7 @@ from made_files import (
 from studio import SMALL_JPEG
 
 from exifnorm_pictures.extract.formats import jpeg as jpeg_, jpeg_tail as mpf_, tiff as tiff_, tiff_directories
-from exifnorm_pictures.model import found as limits
+from exifnorm_pictures.model import budgets
 from exifnorm_pictures.model.found import Blocks, Broken, ordinal
 
 MIN = b"\xff\xd8\xff\xda\0\2\xff\xd9"  # a JPEG of one scan without data
@@ -66,7 +66,7 @@ class Readers(unittest.TestCase):
         self.assertEqual(str(caught.exception), why)
 
     def too_much(self, octets, why):
-        with self.assertRaises(limits.TooMuch) as caught:
+        with self.assertRaises(budgets.TooMuch) as caught:
             found_in(octets)
         self.assertEqual(str(caught.exception), why)
 
@@ -234,26 +234,26 @@ class Readers(unittest.TestCase):
         self.too_much(MIN[:-2] + b"\xff\xe1\0\2" * 1001, "more than 1,000 metadata segments after the first scan")
         self.assertEqual(len(found_in(MIN[:-2] + b"\xff\xed\0\2" * 1000).not_read), 1000)
         for it in (b"\xff\xfe\0\2", segment(0xED, b"Adobe_CM")):  # also if each segment is looked at
-            with mock.patch.dict(limits.LIMITS, {limits.SEGMENTS: 5}):
+            with mock.patch.dict(budgets.LIMITS, {budgets.SEGMENTS: 5}):
                 self.assertEqual(found_in(b"\xff\xd8" + it * 4 + b"\xff\xd9").not_read, [])
                 self.too_much(b"\xff\xd8" + it * 6 + b"\xff\xd9", "more than 5 segments")
         whole = b"\xff\xd8" + app1(A) + app1(B)
-        with mock.patch.dict(limits.LIMITS, {limits.SEGMENT_BYTES: len(whole) + 2}):
+        with mock.patch.dict(budgets.LIMITS, {budgets.SEGMENT_BYTES: len(whole) + 2}):
             self.assertEqual(len(found_in(whole + b"\xff\xd9").blocks), 2)
             self.too_much(whole + segment(0xFE, b"") + b"\xff\xd9", f"more than {len(whole) + 2:,} bytes of segments")
-        with mock.patch.dict(limits.LIMITS, {limits.SEGMENTS: 13}):  # the pictures of an index have one budget
+        with mock.patch.dict(budgets.LIMITS, {budgets.SEGMENTS: 13}):  # the pictures of an index have one budget
             self.assertEqual(len(found_in(mpf(app1(A), MIN, MIN)).not_read), 0)
             self.too_much(mpf(app1(A), *[MIN] * 8), "more than 13 segments")
 
     def test_limits_of_all_formats(self):
         """Blocks, resources, and parts that are not read: the first eight of a file take no time to count."""
-        for what, one in ((limits.BLOCKS, app1(A) + b"\xff\x01"), (limits.NOT_READ, segment(0xE1, b"unknown"))):
-            with mock.patch.dict(limits.LIMITS, {what: 2}):
+        for what, one in ((budgets.BLOCKS, app1(A) + b"\xff\x01"), (budgets.NOT_READ, segment(0xE1, b"unknown"))):
+            with mock.patch.dict(budgets.LIMITS, {what: 2}):
                 blocks = found_in(jpeg(*[one] * 10))
                 self.assertEqual(len(blocks.blocks) + len(blocks.not_read), 10)
                 self.too_much(jpeg(*[one] * 11), f"more than 2 {what}")
         many = [resource(0x0425, b"")] * 20
-        with mock.patch.dict(limits.LIMITS, {limits.RESOURCES: 20}):
+        with mock.patch.dict(budgets.LIMITS, {budgets.RESOURCES: 20}):
             self.assertEqual(found_in(jpeg(app13(*many))).blocks, [])
             self.too_much(jpeg(app13(*many, *many)), "more than 20 Photoshop resources")
             self.too_much(png(profile(b"8bim", b"".join(many)), profile(b"8bim", b"".join(many))), "more than 20 Photoshop resources")
@@ -261,27 +261,27 @@ class Readers(unittest.TestCase):
     def test_bytes_after_a_picture(self):
         """More than may be read have no digest, so the file is the same as no other."""
         for octets in (SMALL_JPEG, png(), webp((b"EXIF", A)), tiff(page())):
-            with mock.patch.object(limits, "UNREAD_BYTES", 300_000):  # of a JPEG from the scan on
+            with mock.patch.object(budgets, "UNREAD_BYTES", 300_000):  # of a JPEG from the scan on
                 self.assertTrue(found_in(octets + b"x" * 299_000).not_read[0].digest)
                 (part,) = found_in(octets + b"x" * 300_001).not_read
                 self.assertEqual(part.digest, "", part.what)
 
     def test_the_whole_file(self):
         """With --whole each limit is 64 times as high."""
-        for what, one in ((limits.NOT_READ, segment(0xE1, b"unknown")), (limits.SEGMENTS, segment(0xFE, b""))):
-            with mock.patch.dict(limits.LIMITS, {what: 1}):
+        for what, one in ((budgets.NOT_READ, segment(0xE1, b"unknown")), (budgets.SEGMENTS, segment(0xFE, b""))):
+            with mock.patch.dict(budgets.LIMITS, {what: 1}):
                 stream = io.BytesIO(jpeg(*[one] * 40))
                 self.too_much(stream.getvalue(), f"more than 1 {what}")
-                stream = mock.Mock(wraps=stream, budget=limits.Budget(whole=True))
+                stream = mock.Mock(wraps=stream, budget=budgets.Budget(whole=True))
                 self.assertEqual(jpeg_.read(stream, True).type, "JPEG")
         self.assertEqual(
-            {what: most / limits.LIMITS[what] for what, most in limits.Budget(whole=True).left.items()}, dict.fromkeys(limits.LIMITS, 64)
+            {what: most / budgets.LIMITS[what] for what, most in budgets.Budget(whole=True).left.items()}, dict.fromkeys(budgets.LIMITS, 64)
         )
 
     def test_the_time_that_a_file_takes(self):
         """The clock begins when it is first looked at, which small pictures never do."""
         times = []
-        with mock.patch.object(limits.time, "thread_time", lambda: times.append(len(times) * 3.0) or times[-1]):
+        with mock.patch.object(budgets.time, "thread_time", lambda: times.append(len(times) * 3.0) or times[-1]):
             found_in(jpeg(app1(A)))
             self.assertEqual(times, [])
             self.too_much(png(*[chunk(b"aaaa", b"")] * 100), "more than 5 seconds of a processor")
@@ -375,7 +375,7 @@ class Readers(unittest.TestCase):
             (whole[:33] + struct.pack(">I", 0xFFFFFFFF) + b"eXIf", "the file ends inside the chunk at 33"),
         ):
             self.broken(octets, why)
-        with mock.patch.dict(limits.LIMITS, {limits.CHUNKS: 4, limits.CHUNK_BYTES: 1000}):
+        with mock.patch.dict(budgets.LIMITS, {budgets.CHUNKS: 4, budgets.CHUNK_BYTES: 1000}):
             self.assertEqual(len(found_in(whole).blocks), 1)
             self.too_much(png(chunk(b"aaaa", b""), chunk(b"bbbb", b"")), "more than 4 chunks")
             self.too_much(png(chunk(b"eXIf", bytes(1001))), "more than 1,000 bytes of chunks")
@@ -410,7 +410,7 @@ class Readers(unittest.TestCase):
         self.broken(whole[:-1], "the file ends before its header says")
         for behind in (b"", bytes(100)):
             self.broken(whole[:16] + struct.pack("<I", len(A) + 1) + whole[20:] + behind, "the chunk at 12 is longer than the file")
-        with mock.patch.dict(limits.LIMITS, {limits.CHUNKS: 3, limits.CHUNK_BYTES: 100}):
+        with mock.patch.dict(budgets.LIMITS, {budgets.CHUNKS: 3, budgets.CHUNK_BYTES: 100}):
             self.too_much(webp(*[(b"VP8 ", b"")] * 3), "more than 3 chunks")
             self.assertEqual(len(found_in(webp(*[(b"EXIF", b"")] * 2)).blocks), 2)
             self.too_much(webp((b"EXIF", bytes(101))), "more than 100 bytes of chunks")
@@ -564,18 +564,18 @@ class Readers(unittest.TestCase):
             (tiff(deep), "more than 10 SubIFDs below one another"),
         ):
             self.broken(octets, why)
-        with mock.patch.dict(limits.LIMITS, {limits.VALUE_BYTES: 100}):
+        with mock.patch.dict(budgets.LIMITS, {budgets.VALUE_BYTES: 100}):
             self.too_much(tiff(page((0x02BC, 1, b"x" * 101))), "more than 100 bytes of values")
             self.too_much(tiff([(0x02BC, 1, b"x" * 60), (0x83BB, 1, b"x" * 41)]), "more than 100 bytes of values")
             self.assertEqual(len(found_in(tiff(page((0x02BC, 1, b"x" * 100)))).blocks), 2)
         three = tiff(*[[(0x100, LONG, 1), (0x101, LONG, 1)]] * 3)
         named = b"MM\0*" + struct.pack(">IHHHII", 8, 1, 0x014A, LONG, 8, 26) + bytes(4 + 32)
-        for what, most in ((limits.DIRECTORIES, 3), (limits.ENTRIES, 6)):
-            with mock.patch.dict(limits.LIMITS, {what: most - 1}):
+        for what, most in ((budgets.DIRECTORIES, 3), (budgets.ENTRIES, 6)):
+            with mock.patch.dict(budgets.LIMITS, {what: most - 1}):
                 self.too_much(three, f"more than {most - 1} {what}")
-            with mock.patch.dict(limits.LIMITS, {what: most}):
+            with mock.patch.dict(budgets.LIMITS, {what: most}):
                 self.assertEqual(len(found_in(three).blocks), 3)
-        with mock.patch.dict(limits.LIMITS, {limits.DIRECTORIES: 7}):  # SubIFDs count before any of them is read
+        with mock.patch.dict(budgets.LIMITS, {budgets.DIRECTORIES: 7}):  # SubIFDs count before any of them is read
             self.too_much(named, "more than 7 directories")
         with mock.patch.object(tiff_directories, "LIMIT", 33):
             self.broken(tiff([], [(0x010F, ASCII, b"12345678")]), "page 2 has more than 33 bytes of values")

@@ -14,7 +14,8 @@ from made_files import A, app1, app1_xmp, jpeg, title, xmp
 from studio import SMALL_JPEG, put, sql_rows, write
 
 from exifnorm_pictures.extract import sidecars
-from exifnorm_pictures.model.found import LIMITS, PACKET_BYTES, XMP_BYTES, Blocks
+from exifnorm_pictures.model.budgets import LIMITS, PACKET_BYTES, XMP_BYTES
+from exifnorm_pictures.model.found import Blocks
 
 ONE, OTHER = title("one"), title("two")
 PICTURE = jpeg(app1(A))

@@ -16,7 +16,8 @@ from studio import needs, put
 from exifnorm_pictures.extract.exiftool import octets as decoded
 from exifnorm_pictures.extract.formats import jpeg as jpegs, psd as psds
 from exifnorm_pictures.extract.formats.streams import File
-from exifnorm_pictures.model.found import IPTC, Budget, TooMuch
+from exifnorm_pictures.model.budgets import Budget, TooMuch
+from exifnorm_pictures.model.found import IPTC
 
 A, PACKET = exif(b"Abc"), title("a packet")
 START = len(jpeg(app1(A)))  # of what follows the picture

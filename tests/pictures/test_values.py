@@ -17,7 +17,7 @@ from exifnorm_pictures.files import signals
 from exifnorm_pictures.judge import judge
 from exifnorm_pictures.model import found as found_
 from exifnorm_pictures.model.found import EXIF, NotRead
-from exifnorm_pictures.model.texts import TEXTS
+from exifnorm_pictures.model.problems import TEXTS
 from exifnorm_pictures.model.records import BlockRecord, PictureRecord, Stamp, block_of_row
 from exifnorm_pictures.model.columns import Damaged
 from exifnorm_pictures.scan import batches, index

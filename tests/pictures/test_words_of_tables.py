@@ -11,13 +11,15 @@ from pathlib import Path
 
 import exifnorm_pictures
 from exifnorm_pictures.cli.commands import nightly
-from exifnorm_pictures.cli.output import status_of_results
+from exifnorm_pictures.cli.exit_codes import status_of_results
 from exifnorm_pictures.cli.commands.verify import _READERS
 from exifnorm_pictures.comparison.same import group
 from exifnorm_pictures.fields import rules
 from exifnorm_pictures.fields.labels import LABELS, fields_by_label
-from exifnorm_pictures.model.found import LIMITS, XMP
-from exifnorm_pictures.model.texts import Result, Word
+from exifnorm_pictures.model.budgets import LIMITS
+from exifnorm_pictures.model.found import XMP
+from exifnorm_pictures.model.texts import Result
+from exifnorm_pictures.model.words import Word
 from exifnorm_pictures.refusals import explain
 from exifnorm_pictures.refusals.causes import CAUSES, OTHER_REMEDIES, XMP_REMEDIES, words_of
 

@@ -9,7 +9,8 @@ import exifnorm
 from exifnorm_pictures.extract.formats import xmp_file
 from exifnorm_pictures.extract.formats.packet_start import begins_packet
 from exifnorm_pictures.extract.formats.streams import HEAD
-from exifnorm_pictures.model.found import PACKET_BYTES, LeftToOthers
+from exifnorm_pictures.model.budgets import PACKET_BYTES
+from exifnorm_pictures.model.found import LeftToOthers
 from exifnorm_pictures.refusals import causes, mend
 from exifnorm_pictures.xmp import CAUSES
 from hypothesis import example, given, settings, strategies as st

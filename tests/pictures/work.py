@@ -152,14 +152,14 @@ def counted(library, words):
     from exifnorm_pictures.catalogue import store
     from exifnorm_pictures.export import rows
     from exifnorm_pictures.extract import sidecars
-    from exifnorm_pictures.model import found
+    from exifnorm_pictures.model import budgets
     from exifnorm_pictures.scan import index, workers
 
-    found.SECONDS = found.PROGRAM_SECONDS = 1000.0  # what is counted ends a picture, and not the clock of a slow machine,
+    budgets.SECONDS = budgets.PROGRAM_SECONDS = 1000.0  # what is counted ends a picture, and not the clock of a slow machine,
     index.LONGEST_WAIT = workers.LONGEST_WAIT = 1e9  # which doesn't commit more often, either
     sidecars.MOST = 20  # of a picture, up to which the work for many pictures of one name is quadratic
     store.CACHE = rows._CACHE = 1000  # kB, which soon are in use
-    found.READY_BYTES = 1 << 20
+    budgets.READY_BYTES = 1 << 20
     number = {name: ctypes.c_longlong.in_dll(library, f"work_{name}") for name in ("calls", "asked", "used", "peak")}
     profile = ctypes.pythonapi.PyEval_SetProfile
     profile.argtypes, profile.restype = [ctypes.c_void_p, ctypes.c_void_p], None

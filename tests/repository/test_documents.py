@@ -73,8 +73,8 @@ def sections() -> Iterator[object]:
 
 # exifnorm-pictures on a very busy machine: by itself it waits a minute for ExifTool, and for the first worker of a cluster.
 PATIENT = """import sys
-from exifnorm_pictures.model import found
-found.PROGRAM_SECONDS = 3600.0
+from exifnorm_pictures.model import budgets
+budgets.PROGRAM_SECONDS = 3600.0
 from exifnorm_pictures.cli.main import main
 sys.exit(main(sys.argv[1:]))"""
 PATIENT_DASK = {f"DASK_DISTRIBUTED__COMM__TIMEOUTS__{it}": "3600s" for it in ("CONNECT", "TCP")}

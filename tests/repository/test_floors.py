@@ -61,9 +61,7 @@ def test_only_a_command_knows_its_line() -> None:
         if path in ("cli/main.py", "cli/parser.py"):
             continue
         for function in (node for node in ast.walk(tree) if isinstance(node, ast.FunctionDef)):
-            if (path == "cli/output.py" and function.name in ("group_of", "groups_of")) or (
-                path.startswith("cli/") and function.name == "run"
-            ):
+            if path == "cli/options.py" or (path.startswith("cli/") and function.name == "run"):
                 wrong += [f"{path}, line {it.lineno}: {ast.unparse(it)}" for it in ast.walk(function) if _uses_the_line(it)]
             elif any(
                 "Namespace" in ast.unparse(it.annotation) for it in ast.walk(function.args) if isinstance(it, ast.arg) and it.annotation

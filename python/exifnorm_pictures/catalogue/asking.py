@@ -40,7 +40,9 @@ from ..model.records import has, has_short
 from ..model.columns import Damaged
 from ..model.found import EXIF, IPTC, XMP
 from ..model.numbers import Numbers
-from ..model.texts import NOT_THERE, Problem, Word, unescaped
+from ..model.problems import NOT_THERE, Problem
+from ..model.texts import unescaped
+from ..model.words import Word
 from .kept_texts import DATE as FIELD_DATE, NUMBER, OTHER, SHOWN, Report, add_fields, make_ready, say_nothing
 from .store import HEAD, NOT_WHOLE, Catalogue, root_of_row
 

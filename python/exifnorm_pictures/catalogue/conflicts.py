@@ -14,7 +14,8 @@ from exifnorm._words import documented
 from ..fields.labels import DATE, LABELS, POSITION, Caption, Label
 from ..fields.places import Located, is_same_place, metres_apart
 from ..model.found import EXIF, IPTC, NAMES, STANDARDS, XMP
-from ..model.texts import Word, grouped
+from ..model.texts import grouped
+from ..model.words import Word
 
 
 class ConflictKind(Word):

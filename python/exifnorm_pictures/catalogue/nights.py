@@ -24,7 +24,8 @@ import time
 from typing import IO
 
 from ..files import atomic
-from ..model.texts import Failure, shown_path
+from ..model.errors import Failure
+from ..model.texts import shown_path
 from ..model.records import Stamp
 from .store import BESIDE, VERSION, Catalogue, Earlier, earlier_release, head_is_ours, head_of, is_left_open
 

@@ -15,7 +15,8 @@ import tempfile
 from typing import Callable, Container, Iterator, NamedTuple, Sequence
 
 from ..files import atomic
-from ..model.texts import Failure, WrongUse, in_words, shown_path
+from ..model.errors import Failure, WrongUse
+from ..model.texts import in_words, shown_path
 from .store import (
     Catalogue,
     LIST,

@@ -22,7 +22,8 @@ from typing import Any, Callable, Iterable, Iterator, NamedTuple, Optional, Sequ
 from ..fields.packing import fields_of, joined, parted, with_kept_fields
 from ..fields.field import Field
 from ..files import mounts, opening as files, signals
-from ..model.found import NAMES, OWN, ROW_BYTES, ROW_NUMBER, SQL_STEPS, NotRead
+from ..model.budgets import ROW_BYTES, ROW_NUMBER, SQL_STEPS
+from ..model.found import NAMES, OWN, NotRead
 from ..model.records import (
     BLOCKS,
     PICTURES,
@@ -36,7 +37,8 @@ from ..model.records import (
     picture_of_row,
 )
 from ..model.columns import Damaged
-from ..model.texts import GONE, NO_BYTES, Failure
+from ..model.errors import Failure
+from ..model.problems import GONE, NO_BYTES
 from ..model.numbers import Numbers
 
 APPLICATION = 0x45584E50  # 'EXNP', which distinguishes a catalogue from other SQLite files

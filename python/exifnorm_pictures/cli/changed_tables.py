@@ -32,7 +32,9 @@ from ..fields.typed import together
 from ..judge.maker_notes import NoteDifference
 from ..model.texts import Members, Result, escaped, path_members, path_or_none, pictures_in_words, safe, shown_path
 from .looking import opened
-from .output import SUCCESS, UNKNOWN, Output, Run, Table, local_time, print_lines, print_object, status_of_results, width
+from .exit_codes import SUCCESS, UNKNOWN, status_of_results
+from .options import Output, Run
+from .output import Table, local_time, print_lines, print_object, width
 
 # The page of `changed`: groups of pictures that were edited alike, and those that changed like no
 # other, on about 30 lines.

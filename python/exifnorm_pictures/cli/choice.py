@@ -10,7 +10,7 @@ from ..fields.field import Field
 from ..fields.packing import unpacked
 from ..model.found import other_name
 from ..model.texts import escaped, reason
-from .output import Fields
+from .options import Fields
 from .names import text_of, words_in
 
 

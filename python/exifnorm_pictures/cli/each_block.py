@@ -8,10 +8,13 @@ from typing import Callable, Iterator
 from ..extract import coded_picture
 from ..extract.extraction import blocks_of_named
 from ..files.opening import held
-from ..model.found import Budget
-from ..model.texts import Problem, escaped, shown_path
+from ..model.budgets import Budget
+from ..model.problems import Problem
+from ..model.texts import escaped, shown_path
 from ..picture import Block, Picture
-from .output import SUCCESS, UNKNOWN, Files, Run, lacks_some, no_block, note_sidecar, picture_cut, print_lines, unread
+from .exit_codes import SUCCESS, UNKNOWN
+from .options import Files, Run
+from .output import lacks_some, no_block, note_sidecar, picture_cut, print_lines, unread
 from .names import each_name, is_catalogue, is_list
 
 

@@ -15,17 +15,15 @@ from ..files import opening
 from ..model import steps
 from ..model.found import Blocks, NotRead, cut
 from ..model.records import REACHED
-from ..model.texts import NOT_THERE, Members, Problem, escaped, shown_path
+from ..model.problems import NOT_THERE, Problem
+from ..model.texts import Members, escaped, shown_path
 from ..picture import Picture
 from ..scan.walk import Unlisted, below
 from .names import each_name, is_catalogue, is_list, is_ours
+from .exit_codes import SUCCESS, UNKNOWN
+from .options import Files, Output, Run
 from .output import (
-    SUCCESS,
-    UNKNOWN,
     Cell,
-    Files,
-    Output,
-    Run,
     damage_members,
     lacks_some,
     no_block,

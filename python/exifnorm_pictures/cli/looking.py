@@ -11,11 +11,15 @@ from typing import ContextManager, Iterator, Sequence
 from ..catalogue import shards
 from ..catalogue.store import Catalogue, NoCatalogue
 from ..extract import programs
-from ..model.texts import Problem, WrongUse, shown_path
+from ..model.errors import WrongUse
+from ..model.problems import Problem
+from ..model.texts import shown_path
 from ..scan.batches import How, Lines
 from ..scan.index import OF_XMP, IndexOptions, index, number_of
 from ..scan.progress import Progress
-from .output import UNKNOWN, Files, Run, closed_folder, say_notes
+from .exit_codes import UNKNOWN
+from .options import Files, Run
+from .output import closed_folder, say_notes
 from .names import is_catalogue
 from .parser import refuse
 

@@ -17,10 +17,11 @@ from typing import Sequence
 
 from ..files import signals
 from ..files.session import Session
-from ..model import texts
-from ..model.found import OWN_PAGES, PROGRAM_SECONDS
+from ..model import errors
+from ..model.budgets import OWN_PAGES, PROGRAM_SECONDS
 from ..model.texts import described, reason, shown_path
-from .output import FAILURE, STOPPED, USAGE, Least
+from .exit_codes import FAILURE, STOPPED, USAGE
+from .options import Least
 from .parser import parsed
 
 COLLECTED = 50_000  # objects after which Python looks for rings of objects: what a picture needs makes none, so mostly it looks in vain
@@ -106,8 +107,8 @@ def _with_spreadsheet(module: ModuleType, arguments: argparse.Namespace) -> int:
 
 
 def _failed_by(error: Exception, debug: bool) -> int:
-    if isinstance(error, texts.Failure):
-        status = _failed(str(error), USAGE if isinstance(error, texts.WrongUse) else FAILURE)
+    if isinstance(error, errors.Failure):
+        status = _failed(str(error), USAGE if isinstance(error, errors.WrongUse) else FAILURE)
         for line in error.lines:
             signals.say(line)
         return status

@@ -11,9 +11,11 @@ from typing import TYPE_CHECKING, BinaryIO, Iterator, Sequence
 from ..fields.tokens import MOST_WORDS
 from ..files import opening
 from ..files.opening import reading
-from ..model.texts import WrongUse, escaped, shown_path
+from ..model.errors import WrongUse
+from ..model.texts import escaped, shown_path
 from ..scan.walk import BadList, names_in_list
-from .output import Files, say_notes
+from .options import Files
+from .output import say_notes
 from .parser import refuse
 
 if TYPE_CHECKING:

@@ -1,8 +1,7 @@
-"""What a command gets, the options of its line in groups, and what it gives: a status, and lines for people or JSON objects."""
+"""What a command prints: lines and tables for people, and JSON objects."""
 
 from __future__ import annotations
 
-import argparse
 import contextlib
 import functools
 import json
@@ -14,107 +13,21 @@ import unicodedata
 from collections import Counter
 from datetime import datetime, timezone
 from itertools import islice
-from typing import TYPE_CHECKING, Any, Iterable, Iterator, NamedTuple, Sequence, TypeVar, Union
+from typing import TYPE_CHECKING, Any, Iterable, Iterator, Sequence, Union
 
 from ..files import signals
-from ..files.session import Session
-from ..model.found import CUT, ENCODED_CHARACTERS, NAMES, PROGRAM_SECONDS, cut, damage, each_kind
+from ..model.budgets import ENCODED_CHARACTERS
+from ..model.found import CUT, NAMES, cut, damage, each_kind
 from ..model.records import AS_BEFORE, BlockRecord, PictureRecord
 from ..model.steps import loses, words
-from ..model.texts import COUNTED, Members, Problem, Result, near, path_members, safe, safe_lines, shown_path
+from ..model.problems import COUNTED, Problem
+from ..model.texts import Members, near, path_members, safe, safe_lines, shown_path
 from ..model.verdicts import with_verb
+from .options import Output
 
 if TYPE_CHECKING:
     from ..picture import Picture
     from .sheets import Sheet
-
-# The exit statuses of the command, as `--help` and the manual page list them. If several apply, the greatest counts.
-
-SUCCESS = 0  # done, or the same
-DIFFERENCE = 1  # something differs, also after repair, is missing or was moved; a mended copy differs in a printed value
-UNKNOWN = 2  # it can't be decided wholly: a block is refused, a picture or a part was not read, only a MakerNote moved; no remedy worked
-USAGE = 3  # the arguments are refused
-FAILURE = 4  # the command itself failed: the catalogue, a stream, the disk, the memory
-STOPPED = 130  # by the keyboard
-
-
-def status_of_results(results: Iterable[Result]) -> int:
-    """The greatest status of some results."""
-    statuses = {UNKNOWN if it.is_open else DIFFERENCE if it.has_changed else SUCCESS for it in results}
-    return max(statuses, default=SUCCESS)
-
-
-class Least:
-    """The least status of a run: what it finds on the way can raise it."""
-
-    status = SUCCESS
-
-
-# The options of a command: a record for each group of them, made once from its line, which nobody changes.
-
-
-class Files(NamedTuple):
-    """The catalogue and the names that a command gets."""
-
-    command: str
-    source: str | None = None  # the first name, which may be a catalogue
-    catalogue: str | None = None  # of --catalogue, which index and nightly have
-    names: Sequence[str] = ()
-    files_from: str | None = None
-    null: bool = False  # the names of that list end with NUL
-
-
-class Fields(NamedTuple):
-    """The fields that count, or the labels."""
-
-    ignore: Sequence[str] = ()
-    only: Sequence[str] = ()
-    equal_numbers: bool = False
-
-
-class Output(NamedTuple):
-    """The form of the answer."""
-
-    json: bool = False
-    csv: bool = False  # also of --xlsx, with a sheet
-    sheet: Sheet | None = None
-    geojson: bool = False
-    exact: bool = False
-    html: str | None = None
-
-
-class Run(NamedTuple):
-    """The run, and how it reads pictures."""
-
-    session: Session
-    least: Least
-    jobs: int = 0
-    quiet: bool = False
-    again: bool = False
-    exclude: Sequence[str] = ()
-    scheduler: str | None = None
-    whole: bool = False
-    pixels: bool = False
-    sidecars: bool = False
-    maker_notes: bool = False
-    limit: float = PROGRAM_SECONDS
-
-
-Group = TypeVar("Group", Files, Fields, Output, Run)
-
-
-def groups_of(arguments: argparse.Namespace) -> tuple[Files, Run, Output]:
-    """What most commands need."""
-    return group_of(Files, arguments), group_of(Run, arguments), group_of(Output, arguments)
-
-
-def group_of(kind: type[Group], arguments: argparse.Namespace) -> Group:
-    """A group of the options of a command. Those that the command lacks are as if they weren't given.
-
-    >>> group_of(Output, argparse.Namespace(json=True, columns="title"))
-    Output(json=True, csv=False, sheet=None, geojson=False, exact=False, html=None)
-    """
-    return kind(**{name: value for name, value in vars(arguments).items() if name in kind._fields})
 
 
 # A table of three columns for people: names, and two values side by side.

@@ -9,9 +9,9 @@ import shlex
 import sys
 from typing import IO, Any, Callable, Iterable, Iterator, NoReturn, Sequence
 
-from ..model.found import PROGRAM_SECONDS
+from ..model.budgets import PROGRAM_SECONDS
 from ..model.texts import safe
-from .output import USAGE
+from .exit_codes import USAGE
 from .grammar import COMMANDS, DAILY, OF_CATALOGUES, OF_PICTURES, ONLY_WITH, OPTIONS_WENT, SHARED, UPKEEP, WENT, Command, joined
 
 _ABOUT = """Compares the Exif, IPTC and XMP metadata of many pictures. It finds pictures

@@ -9,7 +9,8 @@ from typing import Iterator, Sequence
 
 from ..files import atomic
 from ..files.session import Session
-from ..model.texts import Failure, escaped, in_words, reason, safe_lines, shown_path
+from ..model.errors import Failure
+from ..model.texts import escaped, in_words, reason, safe_lines, shown_path
 from .output import Cell, print_line
 
 ROWS, LONGEST = 1_048_576, 32_767  # of a sheet, and characters of a cell in UTF-16, of Excel and LibreOffice

@@ -6,7 +6,7 @@ import textwrap
 from typing import Callable, Iterator, Mapping
 
 from ..fields.rules import EXAMPLES
-from ..model.found import PROGRAM_SECONDS
+from ..model.budgets import PROGRAM_SECONDS
 from .grammar import COMMANDS, joined
 from .parser import parsers
 

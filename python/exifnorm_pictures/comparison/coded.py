@@ -8,7 +8,8 @@ from typing import Sequence
 from ..model import rest
 from ..model.found import CUT, XMP_FILE
 from ..model.records import PictureRecord
-from ..model.texts import Result, Word
+from ..model.texts import Result
+from ..model.words import Word
 
 
 class Coded(Word):

@@ -12,7 +12,7 @@ from ..extract.formats.jpeg_segments import read_head
 from ..extract.formats.streams import File, Parts, digest_of
 from ..files import opening
 from ..files.opening import opened
-from ..model.found import Budget, TooMuch
+from ..model.budgets import Budget, TooMuch
 from ..model.records import Stamp, is_marked_as
 from ..model.texts import Result
 

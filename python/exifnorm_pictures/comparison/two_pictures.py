@@ -16,7 +16,8 @@ from ..files.opening import held
 from ..files.session import Session
 from ..judge.sides import Sides
 from ..model.found import EXIF, IPTC, KINDS, NAMES
-from ..model.texts import Problem, Result
+from ..model.problems import Problem
+from ..model.texts import Result
 from ..model.records import PictureRecord, Stamp
 from ..scan.batches import How
 from ..scan.looking import look

@@ -22,9 +22,11 @@ from ..files import opening
 from ..files.copying import is_hollow
 from ..model.records import BlockRecord, PictureRecord, Stamp, has
 from ..model.columns import Damaged
-from ..model.found import HOLES
+from ..model.budgets import HOLES
 from ..model.rest import changes, counting
-from ..model.texts import NOT_THERE, TEXTS, Word, WrongUse
+from ..model.errors import WrongUse
+from ..model.problems import NOT_THERE, TEXTS
+from ..model.words import Word
 from ..model.verdicts import result_of, verdicts
 from ..scan.batches import How, Result
 from ..scan.index import Look, looked

@@ -27,8 +27,9 @@ from ..files.session import Session
 from ..model import steps
 from ..model.records import BlockRecord, PictureRecord
 from ..model.columns import Damaged
-from ..model.found import CACHED, SQL_STEPS, WAITING_BYTES
-from ..model.texts import Failure, path_members
+from ..model.budgets import CACHED, SQL_STEPS, WAITING_BYTES
+from ..model.errors import Failure
+from ..model.texts import path_members
 from ..scan.progress import Progress
 
 # The tables of an export. The tables of docs/CATALOGUE.md are printed from their comments.

@@ -17,7 +17,8 @@ from typing import Callable, Iterable, Iterator, NamedTuple, Sequence
 
 from ..files import opening
 from ..model import rest
-from ..model.found import CUT, IN_PICTURE, Blocks, Broken, Budget, TooMuch
+from ..model.budgets import Budget, TooMuch
+from ..model.found import CUT, IN_PICTURE, Blocks, Broken
 from . import coded_picture, coded_tiff, raw_files
 from .coded_tiff import NotFollowed, refuse_if
 from .formats import heif, jpeg, jxl, png, streams, tiff, webp

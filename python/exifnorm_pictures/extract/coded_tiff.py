@@ -12,7 +12,8 @@ import hashlib
 from operator import lt
 from typing import Iterable, Iterator, Sequence
 
-from ..model.found import IN_PICTURE, STRIPS, Broken, Budget
+from ..model.budgets import STRIPS, Budget
+from ..model.found import IN_PICTURE, Broken
 from ..model.tiff_types import IFD, LONG, LONG8, SHORT
 from .formats import tiff
 from .formats.streams import Part, Stream, add_to, read_at

@@ -17,8 +17,10 @@ import shutil
 from typing import Sequence, cast
 
 from ..files.session import Session
-from ..model.found import EXIF, EXIFTOOL, EXIV2, IPTC, OUTPUT, UNREAD_TRAILER, WHOLE_FILE, XMP, Blocks, NotRead, budget_of
-from ..model.texts import Problem, ending_of
+from ..model.budgets import OUTPUT, WHOLE_FILE, budget_of
+from ..model.found import EXIF, EXIFTOOL, EXIV2, IPTC, UNREAD_TRAILER, XMP, Blocks, NotRead
+from ..model.problems import Problem
+from ..model.texts import ending_of
 from . import programs, raw_files
 from .formats.streams import Stream, digest_of, size_of
 from .programs import Failed, TooSlow

@@ -9,8 +9,11 @@ from exifnorm import LibraryMissing
 
 from ..files import opening, signals
 from ..files.session import Session
-from ..model.found import BROKEN, CUT, UNREAD_TRAILER, Blocks, Broken, Budget, LeftToOthers, NotRead, TooMuch
-from ..model.texts import Failure, Problem, described
+from ..model.budgets import Budget, TooMuch
+from ..model.found import BROKEN, CUT, UNREAD_TRAILER, Blocks, Broken, LeftToOthers, NotRead
+from ..model.errors import Failure
+from ..model.problems import Problem
+from ..model.texts import described
 from .formats import jpeg
 from .formats.streams import File, Parts
 

@@ -8,7 +8,7 @@ import os
 import sys
 from typing import IO, Iterator, Protocol, cast
 
-from ..model.found import COPIED_BYTES, Budget
+from ..model.budgets import COPIED_BYTES, Budget
 from ..model.texts import described, ending_of
 from .formats.streams import CHUNK, Parts
 

@@ -16,8 +16,10 @@ import time
 from typing import TYPE_CHECKING, Callable, NamedTuple
 
 from ..files import signals
-from ..model.found import OUTPUT, PROGRAM_BYTES
-from ..model.texts import Failure, Problem, reason
+from ..model.budgets import OUTPUT, PROGRAM_BYTES
+from ..model.errors import Failure
+from ..model.problems import Problem
+from ..model.texts import reason
 
 if TYPE_CHECKING:
     import subprocess  # which takes long to import: most runs start no program

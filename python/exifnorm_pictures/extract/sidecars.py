@@ -14,7 +14,8 @@ import re
 from typing import Callable, Iterable, Iterator, NamedTuple, Sequence
 
 from ..files import opening
-from ..model.found import LIMITS, PACKET_BYTES, SIDECAR, XMP, XMP_BYTES, Blocks, FoundBlock, NotRead, ordinal
+from ..model.budgets import LIMITS, PACKET_BYTES, XMP_BYTES
+from ..model.found import SIDECAR, XMP, Blocks, FoundBlock, NotRead, ordinal
 from ..model.records import RACY, Stamp
 from . import raw_files
 

@@ -10,7 +10,7 @@ from functools import cached_property
 from itertools import count
 from typing import Iterator, NamedTuple, Optional
 
-from ..model.found import BLOCK_ENTRIES
+from ..model.budgets import BLOCK_ENTRIES
 from ..model.texts import in_words
 from ..model.tiff_types import IFD, LONG, SHORT, SLONG, SSHORT, TIFF
 

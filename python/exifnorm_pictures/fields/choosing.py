@@ -8,7 +8,8 @@ from dataclasses import dataclass, field
 from typing import Callable, Iterable, Iterator, Mapping, Sequence
 
 from ..model.found import EXIF, IPTC, NAMES, XMP
-from ..model.texts import Members, WrongUse, escaped
+from ..model.errors import WrongUse
+from ..model.texts import Members, escaped
 from .field import Field
 from .field_names import EXIF_GROUPS, XMP_GROUPS, Names, asked_name, dictionary, is_possible, names_and_groups
 from .listing import MAKER_NOTE, is_rest

@@ -8,7 +8,8 @@ import re
 import time
 from datetime import date, datetime, timedelta
 
-from ..model.texts import WrongUse, safe
+from ..model.errors import WrongUse
+from ..model.texts import safe
 
 _ANY = re.compile(r"(\d{4})(?:([-:/.]?)(\d\d)(?:\2(\d\d)(?:[ T]?(\d\d)(?::?(\d\d)(?::?(\d\d(?:\.\d+)?))?)?)?(?: ?(Z|[+-]\d\d:?\d\d))?)?)?")
 _TODAY = re.compile(r"(?:in (\d{1,5}) (day|week|month|year)s?|today(?: ?([+-]) ?(\d{1,5}) (day|week|month|year)s?)?)", re.I)

@@ -7,7 +7,7 @@ import re
 from typing import Iterable, Iterator, Sequence
 
 from ..model import xmp_values
-from ..model.found import SHOWN_CHARACTERS, SHOWN_FIELDS
+from ..model.budgets import SHOWN_CHARACTERS, SHOWN_FIELDS
 from ..model.texts import quoted
 from ..model.xmp_values import Long, XmpValue
 from .field import Content, Field, Ratio

@@ -8,7 +8,7 @@ from __future__ import annotations
 import functools
 import re
 
-from ..model.found import CACHED
+from ..model.budgets import CACHED
 
 
 DIRECTORIES: dict[str, str] = {

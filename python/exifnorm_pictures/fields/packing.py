@@ -20,7 +20,7 @@ from typing import Any, Callable, Generic, Iterable, Iterator, NamedTuple, Seque
 
 from ..model.records import BlockRecord
 from ..model.columns import Damaged
-from ..model.found import FIELD_BYTES, KEPT_BYTES, LINES_BYTES, NESTED
+from ..model.budgets import FIELD_BYTES, KEPT_BYTES, LINES_BYTES, NESTED
 from ..model.xmp_values import Array, Literal, Long, Structure, Uri, XmpValue
 from .field import Content, Field
 from .listing import MAKER_NOTE, OCTETS, digest_of, kept_property, kept_value, plain_text, rest_of

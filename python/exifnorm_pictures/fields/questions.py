@@ -18,7 +18,8 @@ import unicodedata
 from dataclasses import dataclass
 from typing import Callable, Iterable, Iterator, Sequence, Union
 
-from ..model.texts import WrongUse, safe
+from ..model.errors import WrongUse
+from ..model.texts import safe
 from . import dates
 from .choosing import hint, is_known
 from .forms import clock_of, number_of

@@ -16,7 +16,7 @@ import re
 from dataclasses import dataclass
 from typing import Callable, Iterable, NoReturn, Sequence
 
-from ..model.texts import WrongUse
+from ..model.errors import WrongUse
 from . import dates
 from .labels import DATED, LABELS, POSITION, fields_by_label, label_of
 from .questions import WrongQuestion, checked_value, exact_value, given_label, nearest

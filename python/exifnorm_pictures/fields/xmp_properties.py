@@ -7,7 +7,7 @@ import hashlib
 from exifnorm._library import library
 from exifnorm._properties import _HEAD, _TAIL
 
-from ..model.found import Budget
+from ..model.budgets import Budget
 from ..model.texts import grouped
 from ..model.xmp_names import short_name
 from ..model.xmp_values import Array, LongStructure, Structure, XmpValue, exact, texts_in

@@ -15,7 +15,8 @@ import stat
 import zlib
 from typing import AnyStr, BinaryIO, Callable, Iterable, Iterator, NamedTuple, Pattern, Sequence
 
-from ..model.texts import Failure, reason, shown_path
+from ..model.errors import Failure
+from ..model.texts import reason, shown_path
 from . import copying, opening, signals
 
 # Who may read and write a file that is made: nobody who may not do so with what it was made from, or with what it replaces.

@@ -11,7 +11,7 @@ import os
 import time
 from typing import Iterator, Protocol
 
-from ..model.found import PROGRAM_SECONDS
+from ..model.budgets import PROGRAM_SECONDS
 
 
 _LEAST = 0.001  # seconds of a clock that a call has if the earlier ones took all: a program that answers nothing then was too slow

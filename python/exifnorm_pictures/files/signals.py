@@ -9,7 +9,8 @@ import sys
 from types import FrameType
 from typing import IO, Iterator
 
-from ..model.texts import Failure, safe
+from ..model.errors import Failure
+from ..model.texts import safe
 
 SIGNALS = tuple(getattr(signal, it) for it in ("SIGTERM", "SIGHUP") if hasattr(signal, it))
 _HEEDED = (*SIGNALS, signal.SIGINT)

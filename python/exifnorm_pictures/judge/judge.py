@@ -19,7 +19,8 @@ from ..fields.packing import Fields, Packed, is_short, left_out, packed
 from ..fields.field import DeclaredField, Field, Identity
 from ..fields.listing import OCTETS, digest_of
 from ..model import steps
-from ..model.found import ALL_FIELDS, COMPRESSED, EXIF, FEW, FIELD_BYTES, FIELDS, IPTC, KEPT_BYTES, NAMES, XMP, Blocks, Budget, FoundBlock
+from ..model.budgets import ALL_FIELDS, FIELD_BYTES, FIELDS, KEPT_BYTES, Budget
+from ..model.found import COMPRESSED, EXIF, FEW, IPTC, NAMES, XMP, Blocks, FoundBlock
 from ..model.records import BlockRecord, Status
 from ..model.xmp_values import Long
 

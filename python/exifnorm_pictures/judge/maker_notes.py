@@ -12,7 +12,7 @@ from typing import NamedTuple, Sequence
 
 from ..extract import exiftool, programs
 from ..files.session import Session
-from ..model.found import FIELD_BYTES
+from ..model.budgets import FIELD_BYTES
 from ..model.records import PictureRecord, Stamp, has, is_marked_as
 from ..model.columns import Damaged
 from .sides import Sides

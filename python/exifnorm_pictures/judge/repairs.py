@@ -14,7 +14,7 @@ from typing import Callable, Iterator, NamedTuple, Sequence, Union
 import exifnorm
 
 from ..extract.structure import HEADER, LINKS, MAKER_NOTE, Directory, Entry, Walk
-from ..model.found import Budget
+from ..model.budgets import Budget
 from ..model.steps import Step
 from ..model.texts import grouped
 from ..model.tiff_types import EXIF, IFD, LONG

@@ -10,9 +10,11 @@ import os
 from typing import Annotated, Any, NamedTuple, Optional, Sequence
 
 from .columns import LONGEST, Columns, Damaged, Is, check
-from .found import EXIF, KINDS, NAMES, ROW_BYTES, XMP, Blocks, NotRead, cut, not_known
+from .budgets import ROW_BYTES
+from .found import EXIF, KINDS, NAMES, XMP, Blocks, NotRead, cut, not_known
 from .steps import Step, loses, unpacked
-from .texts import Members, Word
+from .texts import Members
+from .words import Word
 
 # The blocks of one kind in one picture, as two pictures are compared by them.
 

@@ -1,4 +1,4 @@
-"""Words for people: results and problems with what follows from them, errors, and names of files and texts of pictures as one safe line.
+"""Words for people: the results of comparisons, and names of files and texts of pictures as one safe line.
 
 Such a line can't control a terminal, and has no end of a line in it.
 """
@@ -9,152 +9,10 @@ import os
 import re
 from contextlib import suppress
 from functools import lru_cache
-from enum import Enum, Flag, auto
 from types import TracebackType
-from typing import Any, ClassVar, Iterable, TypeVar
+from typing import Any, Iterable, TypeVar
 
-# Fixed lists of words: a member of an enumeration that is its word.
-
-
-class Word(str, Enum):
-    """A word of a fixed list. Printed, compared, kept in a catalogue and written as JSON it is a text like any other.
-
-    Behind its word a member has a value for each attribute that its class declares. Of those that are left out a text is empty, and another
-    one False.
-
-    >>> class Colour(Word):
-    ...     is_warm: bool
-    ...     text: str
-    ...     RED = ("red", True, "as a rose")
-    ...     BLUE = "blue"
-    >>> f"{Colour.RED}", Colour.RED == "red", Colour("red") is Colour.RED
-    ('red', True, True)
-    >>> [(colour.is_warm, colour.text) for colour in Colour]
-    [(True, 'as a rose'), (False, '')]
-    """
-
-    def __new__(cls, word: str, *values: object) -> "Word":
-        member = str.__new__(cls, word)
-        member._value_ = word
-        given = iter(values)
-        for name, kind in cls.__dict__.get("__annotations__", {}).items():
-            setattr(member, name, next(given, "" if kind == "str" else False))
-        return member
-
-    __str__, __hash__ = str.__str__, str.__hash__
-
-    def __format__(self, form: str) -> str:
-        return str.__format__(self, form)
-
-
-# Why a file has no blocks: each problem with its word, its meaning for people, and what follows from it.
-
-
-class Follows(Flag):
-    """What follows from a problem."""
-
-    NOTHING = 0
-    NO_FILE = auto()  # the name leads to no file, so nothing is compared
-    GONE = auto()  # the file was there at an earlier run
-    NO_BYTES = auto()  # nobody can read its bytes, so what was known of it stays
-    FAILED = auto()  # it should be readable, and isn't
-    AGAIN = auto()  # it may be solved although the file is the same: it is looked at again
-
-
-class Problem(Word):
-    """A problem. It is its word, as JSON and catalogues have it: `Problem.VANISHED == "Vanished"`."""
-
-    text: str  # for people
-    counted: str  # as counts have it: "5 at which a program failed"
-    follows: Follows
-    program: str  # which solves it, once it is installed
-
-    NO_PICTURE = ("NoPicture", "the file is no picture that ExifTool knows", "no picture", Follows.NOTHING)
-    UNREADABLE = ("Unreadable", "the file can't be read", "not readable", Follows.NO_BYTES | Follows.FAILED | Follows.AGAIN)
-    VANISHED = (
-        "Vanished",
-        "there is no such file any more",
-        "gone since an earlier run",
-        Follows.NO_FILE | Follows.GONE | Follows.NO_BYTES | Follows.AGAIN,
-    )
-    MOVED = ("Moved", "the file has another name now", "moved since an earlier run", Follows.NO_FILE | Follows.GONE | Follows.AGAIN)
-    NO_FILE = ("NoFile", "there is no such file", "no such file", Follows.NO_BYTES)
-    LINK_TO_NOTHING = (
-        "LinkToNothing",
-        "a symbolic link that leads to no file",
-        "a link that leads to no file",
-        Follows.NO_FILE | Follows.NO_BYTES | Follows.AGAIN,
-    )
-    NOT_A_FILE = (
-        "NotAFile",
-        "a folder, a pipe, a socket or a device",
-        "a pipe, a socket or a device",
-        Follows.NO_FILE | Follows.NO_BYTES | Follows.AGAIN,
-    )
-    SEVERAL_BLOCKS = (
-        "SeveralBlocks",
-        "a damaged CR3 or a film of Canon, which have several Exif blocks (CMT1 to CMT4): ExifTool extracts only the first,"
-        " so two different ones could seem to be the same",
-        "damaged CR3, or a film of Canon",
-        Follows.NOTHING,
-    )
-    BIG_TIFF = (
-        "BigTIFF",
-        "this BigTIFF can't be read, and no other program extracts its Exif block",
-        "BigTIFF that can't be read",
-        Follows.NOTHING,
-    )
-    NEEDS_EXIV2 = (
-        "NeedsExiv2",
-        "exiv2, which extracts the Exif block of raw files, isn't installed (package exiv2)",
-        "raw, and exiv2 is not installed",
-        Follows.FAILED,
-        "exiv2",
-    )
-    NEEDS_EXIFTOOL = (
-        "NeedsExifTool",
-        "ExifTool, which reads this format, isn't installed",
-        "of another format, and ExifTool is not installed",
-        Follows.FAILED,
-        "exiftool",
-    )
-    TOO_MUCH = ("TooMuch", "reading the file exceeds a limit that no real picture reaches", "over a limit", Follows.FAILED)
-    TOO_SLOW = (
-        "TooSlow",
-        "the program that extracts blocks took longer than its limit; the next run tries again",
-        "at which a program took too long",
-        Follows.FAILED | Follows.AGAIN,
-    )
-    TOOL_FAILED = (
-        "ToolFailed",
-        "the program that extracts blocks failed on this file",
-        "at which a program failed",
-        Follows.FAILED | Follows.AGAIN,
-    )
-    INTERNAL_ERROR = (
-        "InternalError",
-        "exifnorm-pictures itself failed on this file; please report it",
-        "at which exifnorm-pictures itself failed",
-        Follows.FAILED | Follows.AGAIN,
-    )
-
-
-def _words(follows: Follows) -> tuple[str, ...]:
-    return tuple(str.__str__(problem) for problem in Problem if problem.follows & follows)
-
-
-# The words by what follows, for queries, and for problems as a catalogue has them
-NOT_THERE = _words(Follows.NO_FILE)
-GONE = _words(Follows.GONE)
-NO_BYTES = _words(Follows.NO_BYTES)
-NOT_READABLE = _words(Follows.FAILED)
-AGAIN = _words(Follows.AGAIN)
-NEEDED = {problem.value: problem.program for problem in Problem if problem.program}
-TEXTS = {problem.value: problem.text for problem in Problem}
-COUNTED = {problem.value: problem.counted for problem in Problem}
-
-
-# What a comparison finds: each result with its word, and what it says.
+from .words import Word
 
 
 class Result(Word):
@@ -227,27 +85,6 @@ class Result(Word):
     def is_open(self) -> bool:
         """Whether it isn't known if something has changed."""
         return self.has_changed is None
-
-
-# Errors whose text is for people. `cli` decides by which status they end a command.
-
-
-class Failure(Exception):
-    """An error whose text is for people. It ends the command. Further arguments are lines below the text."""
-
-    problem: ClassVar[Problem | None] = None  # that a picture has at which it happens, if it ends no command
-
-    def __str__(self) -> str:
-        return str(self.args[0]) if self.args else ""
-
-    @property
-    def lines(self) -> tuple[str, ...]:
-        """The lines below the text."""
-        return tuple(map(str, self.args[1:]))
-
-
-class WrongUse(Failure):
-    """The arguments of a command, or a file that they name, are refused."""
 
 
 Members = dict[str, Any]  # of a JSON object

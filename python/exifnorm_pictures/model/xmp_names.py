@@ -4,7 +4,7 @@ from __future__ import annotations
 
 import functools
 
-from .found import CACHED
+from .budgets import CACHED
 
 _SPACES: dict[str, str] = dict(
     line.split()

@@ -21,9 +21,11 @@ from ..files import atomic, copying, opening
 from ..files.session import Session
 from ..judge import repairs
 from ..judge.judge import judge_all
-from ..model.found import EXIF, MENDED_BYTES, REST, SIX, Blocks, Broken, Budget, FoundBlock, TooMuch, cut, damage
+from ..model.budgets import MENDED_BYTES, Budget, TooMuch
+from ..model.found import EXIF, REST, SIX, Blocks, Broken, FoundBlock, cut, damage
 from ..model.steps import Step, loses
-from ..model.texts import Word, ending_of, reason, shown_path
+from ..model.texts import ending_of, reason, shown_path
+from ..model.words import Word
 
 # A picture in which repaired Exif blocks replace the refused ones. All other bytes of the file stay as they are.
 

@@ -6,7 +6,8 @@ from dataclasses import dataclass, field
 from typing import Any, Callable, Iterator, NamedTuple
 
 from ..catalogue.checking import Checked
-from ..model.texts import WrongUse, whole_path
+from ..model.errors import WrongUse
+from ..model.texts import whole_path
 from . import lists
 from .changes import Changes
 from .contents import About, Entry, pages_of

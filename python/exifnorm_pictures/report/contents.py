@@ -14,7 +14,7 @@ from ..fields.choosing import EVERYTHING, Choice
 from ..fields.rules import Rule
 from ..files.session import Session
 from ..model.records import has_short, kind_of
-from ..model.texts import WrongUse
+from ..model.errors import WrongUse
 
 LONGEST = 300  # characters of the name of a field that is counted
 

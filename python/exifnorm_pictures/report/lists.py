@@ -23,7 +23,8 @@ from ..fields.labels import COMMENT, LABEL_WORDS
 from ..fields.rules import Rule
 from ..model.found import STANDARDS, each_kind
 from ..model.records import BlockRecord, PictureRecord, has, has_short, picture_of_row
-from ..model.texts import NOT_THERE, Problem, grouped, kind_of_part
+from ..model.problems import NOT_THERE, Problem
+from ..model.texts import grouped, kind_of_part
 from .contents import About, Entry, Refused, chosen, chunks, refused, shortened
 
 # The pictures of a catalogue whose Exif, IPTC and XMP contradict each other, for the report.

@@ -19,7 +19,9 @@ from ..comparison.same.groups import of_notes
 from ..fields.labels import label_of_fields
 from ..fields.choosing import of_maker_notes
 from ..model.found import STANDARDS
-from ..model.texts import COUNTED, NOT_THERE, TEXTS, Failure, Result, escaped, in_words, safe, whole_path
+from ..model.errors import Failure
+from ..model.problems import COUNTED, NOT_THERE, TEXTS
+from ..model.texts import Result, escaped, in_words, safe, whole_path
 from ..refusals.causes import CAUSES, words_of
 from .changes import ChangedPicture, Changes, Difference, Row
 from .contents import About, Entry, Links, below, unproved

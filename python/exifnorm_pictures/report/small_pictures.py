@@ -22,7 +22,8 @@ from ..extract import coded_picture, extraction, programs
 from ..files import opening
 from ..files.folders import NewFolder
 from ..files.session import Session
-from ..model.found import EXIF, Budget, TooMuch
+from ..model.budgets import Budget, TooMuch
+from ..model.found import EXIF
 from ..model.records import Stamp, is_as_before
 from . import shrinking
 

@@ -10,8 +10,8 @@ from typing import Callable, NamedTuple, Sequence, Union
 
 from ..catalogue.store import make_rows, put_rows
 from ..files.session import processors
-from ..model.found import PROGRAM_SECONDS
-from ..model.texts import NO_BYTES
+from ..model.budgets import PROGRAM_SECONDS
+from ..model.problems import NO_BYTES
 from ..model.records import PictureRecord
 from .walk import FoundFile
 

@@ -17,10 +17,11 @@ from typing import Callable, Iterable, Iterator, NamedTuple, Sequence
 from ..catalogue.store import Catalogue, Known
 from ..extract import programs
 from ..extract.sidecars import marks
-from ..model import found
+from ..model import budgets
 from ..model.found import UNREAD_TRAILER
 from ..model.numbers import Numbers
-from ..model.texts import AGAIN, GONE, NEEDED, Problem, pictures_in_words
+from ..model.problems import AGAIN, GONE, NEEDED, Problem
+from ..model.texts import pictures_in_words
 from ..model.records import RACY, PictureRecord, is_as_before
 from .batches import LONGEST_WAIT, Batch, How, Lines, Result
 from .walk import Excluded, FoundFile, Part, Unlisted, below, can_overlap, outermost
@@ -322,7 +323,7 @@ class _Looking:
                 self.pictures += 1
                 self.size += result.kept_bytes
             self.ready.append(result)
-            is_much = self.pictures >= BATCH or self.files >= FILES or self.size >= found.READY_BYTES
+            is_much = self.pictures >= BATCH or self.files >= FILES or self.size >= budgets.READY_BYTES
             if is_much or time.monotonic() - self.last > LONGEST_WAIT:
                 self.commit()
         if self.ready:

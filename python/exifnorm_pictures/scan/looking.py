@@ -15,9 +15,11 @@ from ..extract.formats.streams import digest_of_file
 from ..files.opening import held
 from ..files.session import Session
 from ..judge import judge
-from ..model.found import EXIF, NAMES, OWN, UNREAD_NOTES, WHOLE_FILE, Blocks, TooMuch, damage as faults_in
+from ..model.budgets import WHOLE_FILE, TooMuch
+from ..model.found import EXIF, NAMES, OWN, UNREAD_NOTES, Blocks, damage as faults_in
 from ..model import rest
-from ..model.texts import NO_BYTES, Problem, reason
+from ..model.problems import NO_BYTES, Problem
+from ..model.texts import reason
 from ..model.records import RACY, BlockRecord, PictureRecord, Stamp, Status
 from .batches import How
 from .walk import FoundFile

@@ -10,7 +10,8 @@ from typing import Any, Callable, Iterator, Sequence
 
 from ..catalogue.store import Catalogue
 from ..model.records import PictureRecord
-from ..model.texts import Problem, grouped, whole_path
+from ..model.problems import Problem
+from ..model.texts import grouped, whole_path
 
 Key = tuple[object, ...]
 _MARKS = "size, modified, inode, sha256, coded_picture, not_read, exif_octets, iptc_octets, xmp_octets"

@@ -13,7 +13,9 @@ from typing import Iterator, NamedTuple, Sequence
 
 from ..catalogue import shards
 from ..catalogue.store import NUMBERS, Catalogue, roll_back
-from ..model.texts import Problem, WrongUse, pictures_in_words, shown_path
+from ..model.errors import WrongUse
+from ..model.problems import Problem
+from ..model.texts import pictures_in_words, shown_path
 from ..model.records import PictureRecord
 from .walk import Excluded, Part, outermost, parts_of
 from .index import DAMAGED, OF_LAST_RUN, REFUSED, IndexOptions, index, lacking, number_of

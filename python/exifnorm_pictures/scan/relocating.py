@@ -9,7 +9,7 @@ from typing import Iterator
 
 from ..catalogue.store import Catalogue
 from ..extract.sidecars import marks_elsewhere
-from ..model.texts import GONE
+from ..model.problems import GONE
 from ..model.records import RACY, Stamp, has
 
 AS_BEFORE, CHANGED, ABSENT = "as before", "changed", "absent"

@@ -15,7 +15,7 @@ from itertools import islice
 from typing import Any, Iterator, Sequence
 
 from ..extract import programs
-from ..model.texts import Problem
+from ..model.problems import Problem
 from .batches import How
 from .index import IndexOptions
 from .parts import Outcome, Plan, Shard, WrongFolder, indexed, not_looked_at, plan

@@ -13,7 +13,8 @@ from typing import Callable, Collection, Iterable, Iterator, NamedTuple, Sequenc
 
 from ..extract.sidecars import Folder, Folders, Sidecar
 from ..model.records import Stamp
-from ..model.texts import WrongUse, reason, shown_path
+from ..model.errors import WrongUse
+from ..model.texts import reason, shown_path
 
 # Files and folders that a run passes over, by patterns of their names.
 

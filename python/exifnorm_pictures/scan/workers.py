@@ -20,7 +20,7 @@ from typing import Iterable, Iterator, NamedTuple, Sequence
 from ..extract import programs
 from ..files import signals
 from ..files.session import Session
-from ..model.found import READY_BYTES
+from ..model.budgets import READY_BYTES
 from ..model.records import PictureRecord
 from ..model.texts import reason
 from .batches import LONGEST_WAIT, Batch, How, Result, batch

@@ -2,12 +2,12 @@
 
 from __future__ import annotations
 
-from ..model import found
-from ..model.found import LANGUAGE, LIMITS, NAMESPACE, NESTED, PACKET_BYTES, Budget
+from ..model import budgets
+from ..model.budgets import LANGUAGE, LIMITS, NAMESPACE, NESTED, PACKET_BYTES, Budget
 
 CAUSES = {
     "TooLong": f"The packet has more than {PACKET_BYTES:,} bytes, or the packets of its file together have more than"
-    f" {LIMITS[found.XMP_BYTES]:,} bytes, {LIMITS[found.XMP_TAGS]:,} tags or {LIMITS[found.XMP_ATTRIBUTES]:,} attributes.",
+    f" {LIMITS[budgets.XMP_BYTES]:,} bytes, {LIMITS[budgets.XMP_TAGS]:,} tags or {LIMITS[budgets.XMP_ATTRIBUTES]:,} attributes.",
     "LongNamespace": f"A namespace of the packet has more than {NAMESPACE} characters.",
     "LongLanguage": f"A language of the packet (xml:lang) has more than {LANGUAGE} characters.",
     "NotText": "The packet is no text in UTF-8, UTF-16 or UTF-32, or declares another encoding.",
@@ -44,10 +44,10 @@ def spend(packet: bytes, budget: Budget) -> None:
     refuse_if(len(packet) > PACKET_BYTES, "TooLong")
     budget.check_time()
     try:
-        budget.spend(found.XMP_BYTES, len(packet))
-        budget.spend(found.XMP_TAGS, packet.count(b"<"))
-        budget.spend(found.XMP_ATTRIBUTES, packet.count(b"="))
-    except found.TooLong:
+        budget.spend(budgets.XMP_BYTES, len(packet))
+        budget.spend(budgets.XMP_TAGS, packet.count(b"<"))
+        budget.spend(budgets.XMP_ATTRIBUTES, packet.count(b"="))
+    except budgets.TooLong:
         raise
-    except found.TooMuch:
+    except budgets.TooMuch:
         raise Unreadable("TooLong") from None

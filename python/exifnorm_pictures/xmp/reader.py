@@ -10,7 +10,7 @@ import re
 from xml.etree import ElementTree
 from xml.etree.ElementTree import Element
 
-from ..model.found import CACHED, LANGUAGE, NAMESPACE, NESTED
+from ..model.budgets import CACHED, LANGUAGE, NAMESPACE, NESTED
 from ..model.xmp_encodings import encoding_of
 from .packets import Unreadable, refuse_if
 from .tree import MEMBER, PICTURE, RDF, TYPE, Literal, Node, Statement, Statements, Uri, Value, key_of

@@ -10,7 +10,7 @@ from exifnorm import XmpRefused
 from exifnorm._properties import Makers, made_of_form
 from exifnorm._xmp import form_of
 
-from ..model.found import Budget
+from ..model.budgets import Budget
 from .packets import refuse_if, spend
 from .tree import CONTAINERS, RDF, TYPE, Literal, Node, Statement, Statements, Uri, Value
 

@@ -25,23 +25,13 @@ from ...fields.choosing import lines as lines_of_choice
 from ...fields.listing import MAKER_NOTE
 from ...fields.names import group_name
 from ...files import atomic
-from ...model.texts import Result, WrongUse, pictures_in_words, shown_path
+from ...model.errors import WrongUse
+from ...model.texts import Result, pictures_in_words, shown_path
 from .. import changed_tables
 from ..choice import choice_of, listings_of, note_absent, refuse_unknown
-from ..output import (
-    MOST_NAMED,
-    UNKNOWN,
-    Fields,
-    Output,
-    Run,
-    group_of,
-    groups_of,
-    print_line,
-    print_lines,
-    say_notes,
-    status_of_results,
-    table_of,
-)
+from ..exit_codes import UNKNOWN, status_of_results
+from ..options import Fields, Output, Run, group_of, groups_of
+from ..output import MOST_NAMED, print_line, print_lines, say_notes, table_of
 from ..looking import catalogue_of, files_of, is_of_pictures
 from ..names import each_of_list, refuse_pictures, say_unknown
 from ..parser import refuse

@@ -15,30 +15,15 @@ from ...comparison.wording import tell_apart
 from ...fields.labels import DAMAGE
 from ...fields.rules import AGREE, COMPARED, Rule, WrongRules, rules_of
 from ...model.found import SIDECAR, STANDARDS, damage
-from ...model.texts import Members, WrongUse, escaped, grouped, in_words, path_members, pictures_in_words, shown_path
+from ...model.errors import WrongUse
+from ...model.texts import Members, escaped, grouped, in_words, path_members, pictures_in_words, shown_path
 from ...picture import Picture
 from ..labelled import is_open, members, not_read, of_catalogue, origins, pictures, refused, text_members, together
 from ..looking import Preparing, catalogue_of_pictures, note_sidecars, refuse_for_catalogues
 from ..names import named, text_of_file, words_of_file
-from ..output import (
-    DIFFERENCE,
-    SUCCESS,
-    UNKNOWN,
-    Cell,
-    Files,
-    Output,
-    Run,
-    Table,
-    groups_of,
-    named as in_lines,
-    picture_cut,
-    print_line,
-    print_lines,
-    print_object,
-    say_notes,
-    table_of,
-    unread,
-)
+from ..exit_codes import DIFFERENCE, SUCCESS, UNKNOWN
+from ..options import Files, Output, Run, groups_of
+from ..output import Cell, Table, named as in_lines, picture_cut, print_line, print_lines, print_object, say_notes, table_of, unread
 
 
 def run(arguments: argparse.Namespace) -> int:

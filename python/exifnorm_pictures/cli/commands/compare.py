@@ -15,28 +15,17 @@ from ...fields.field import Field
 from ...fields.packing import fields_of
 from ...fields.typed import together
 from ...files.opening import held
-from ...model.found import COMPARED_FIELDS, XMP_FILE, other_name
+from ...model.budgets import COMPARED_FIELDS
+from ...model.found import XMP_FILE, other_name
 from ...model.records import BlockRecord, PictureRecord
-from ...model.texts import NO_BYTES, Members, Result, escaped, shown_path
+from ...model.problems import NO_BYTES
+from ...model.texts import Members, Result, escaped, shown_path
 from ...scan.batches import How
 from ..choice import choice_of, refuse_unknown
 from ..names import refuse_folders
-from ..output import (
-    SUCCESS,
-    UNKNOWN,
-    Fields,
-    Table,
-    columns,
-    group_of,
-    groups_of,
-    note_sidecar,
-    picture_object,
-    print_lines,
-    print_object,
-    status_of_results,
-    table_of,
-    unread_members,
-)
+from ..exit_codes import SUCCESS, UNKNOWN, status_of_results
+from ..options import Fields, group_of, groups_of
+from ..output import Table, columns, note_sidecar, picture_object, print_lines, print_object, table_of, unread_members
 
 
 def run(arguments: argparse.Namespace) -> int:

@@ -10,14 +10,17 @@ from typing import Callable, Union
 from ...extract import programs
 from ...files.session import Session
 from ...model import steps
-from ...model.found import EXIF, XMP, TooMuch
+from ...model.budgets import TooMuch
+from ...model.found import EXIF, XMP
 from ...model.records import Status
 from ...model.texts import Members, path_members, reason
 from ...picture import Block, Picture
 from ...refusals import explain, mend
 from ...refusals.causes import OVER_LIMITS
 from ..each_block import each_block, each_picture, status_of
-from ..output import SUCCESS, Files, Run, damage_lines, damage_members, damage_remedy, groups_of, picture_object, print_object, waiting
+from ..exit_codes import SUCCESS
+from ..options import Files, Run, groups_of
+from ..output import damage_lines, damage_members, damage_remedy, picture_object, print_object, waiting
 
 Try = Callable[[bytes], Union[mend.Mended, str]]  # what `mend` does with a picture, or why that isn't known
 

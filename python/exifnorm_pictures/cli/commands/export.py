@@ -14,10 +14,13 @@ from ...catalogue.store import BESIDE, Catalogue
 from ...export.rows import VERSION, Export, Tables, head_is_ours, tables
 from ...fields.choosing import of_maker_notes
 from ...files import atomic
-from ...model.texts import Members, WrongUse, in_words, path_members, shown_path
+from ...model.errors import WrongUse
+from ...model.texts import Members, in_words, path_members, shown_path
 from ..looking import files_of, opened
 from ..names import chosen_in, say_unknown
-from ..output import SUCCESS, answer, groups_of
+from ..exit_codes import SUCCESS
+from ..options import groups_of
+from ..output import answer
 
 
 def run(arguments: argparse.Namespace) -> int:

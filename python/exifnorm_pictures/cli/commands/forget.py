@@ -9,7 +9,9 @@ from ...catalogue.store import Catalogue, roll_back
 from ...model.texts import path_members, pictures_in_words, shown_path
 from ..looking import written_files_of
 from ..names import named, settle_first
-from ..output import SUCCESS, Files, Output, answer, group_of
+from ..exit_codes import SUCCESS
+from ..options import Files, Output, group_of
+from ..output import answer
 
 
 def run(arguments: argparse.Namespace) -> int:

@@ -11,27 +11,17 @@ from typing import Iterable, Iterator, Sequence
 from ...catalogue import shards
 from ...catalogue.nights import copy_over
 from ...catalogue.store import Catalogue
-from ...model.texts import NOT_READABLE, WrongUse, escaped, in_words, kind_of_part, moved_line, pictures_in_words, shown_path
+from ...model.errors import WrongUse
+from ...model.problems import NOT_READABLE
+from ...model.texts import escaped, in_words, kind_of_part, moved_line, pictures_in_words, shown_path
 from ...scan.index import DAMAGED, OF_LAST_RUN, OF_XMP, REFUSED, IndexOptions, index, lacking, number_of
 from ...scan.parts import Outcome, Plan, indexed, plan, together
 from ...scan.walk import Excluded
 from ..looking import how_of, xmp_files_alone
 from ..names import is_catalogue, named, settle_first, with_first
-from ..output import (
-    SUCCESS,
-    UNKNOWN,
-    Files,
-    Output,
-    Run,
-    answer,
-    counted,
-    groups_of,
-    print_line,
-    print_lines,
-    record_lines,
-    record_objects,
-    say_notes,
-)
+from ..exit_codes import SUCCESS, UNKNOWN
+from ..options import Files, Output, Run, groups_of
+from ..output import answer, counted, print_line, print_lines, record_lines, record_objects, say_notes
 
 
 def going_on(run: Run, catalogue: Catalogue) -> Run:

@@ -20,7 +20,9 @@ from ...fields.places import place_of
 from ...fields.questions import Not, Question, With, WrongQuestion, all_of, given_label, labels_of, question_of
 from ...model.texts import Members, escaped, path_members, pictures_in_words, shown_path
 from .. import listed_texts
-from ..output import SUCCESS, UNKNOWN, Output, groups_of, named, print_line, print_lines, print_object, say_notes, table_of
+from ..exit_codes import SUCCESS, UNKNOWN
+from ..options import Output, groups_of
+from ..output import named, print_line, print_lines, print_object, say_notes, table_of
 from ..looking import Preparing, catalogue_for_questions, note_sidecars, refuse_for_catalogues
 from ..names import words_of_file
 

@@ -13,12 +13,16 @@ from ...files import atomic
 from ...files.opening import held
 from ...files.session import Session
 from ...model import steps
-from ...model.found import TooMuch
-from ...model.texts import Members, Problem, WrongUse, escaped, in_words, pictures_in_words, shown_path
+from ...model.budgets import TooMuch
+from ...model.errors import WrongUse
+from ...model.problems import Problem
+from ...model.texts import Members, escaped, in_words, pictures_in_words, shown_path
 from ...refusals import mend
 from ..looking import opened
 from ..names import chosen_paths, each_of_list, is_catalogue
-from ..output import DIFFERENCE, FAILURE, REMEDY, SUCCESS, UNKNOWN, Files, Output, Run, answer, groups_of, picture_object
+from ..exit_codes import DIFFERENCE, FAILURE, SUCCESS, UNKNOWN
+from ..options import Files, Output, Run, groups_of
+from ..output import REMEDY, answer, picture_object
 from ..parser import refuse
 
 

@@ -7,7 +7,9 @@ import argparse
 from ...catalogue import shards
 from ...catalogue.shards import merge
 from ..looking import files_of, say_missing
-from ..output import SUCCESS, Output, Run, answer, group_of
+from ..exit_codes import SUCCESS
+from ..options import Output, Run, group_of
+from ..output import answer
 
 
 def run(arguments: argparse.Namespace) -> int:

@@ -23,10 +23,14 @@ from ...comparison.coded import sentence_of_coded
 from ...comparison.wording import moved
 from ...fields.rules import Rule
 from ...model.records import PictureRecord
-from ...model.texts import NOT_READABLE, WrongUse, escaped, path_members, path_or_none, pictures_in_words, safe, whole_path
+from ...model.errors import WrongUse
+from ...model.problems import NOT_READABLE
+from ...model.texts import escaped, path_members, path_or_none, pictures_in_words, safe, whole_path
 from ...scan.walk import Excluded
 from ...scan.index import IndexOptions, index, lacking, number_of
-from ..output import DIFFERENCE, SUCCESS, UNKNOWN, Output, Run, groups_of, local_time, print_lines, print_object, say_notes, width
+from ..exit_codes import DIFFERENCE, SUCCESS, UNKNOWN
+from ..options import Output, Run, groups_of
+from ..output import local_time, print_lines, print_object, say_notes, width
 from ..looking import how_of, is_quiet
 from ..names import settle_first
 from .check import rules_of_file

@@ -9,9 +9,12 @@ from typing import Iterator
 
 from ...catalogue import shards
 from ...catalogue.store import Catalogue, NoCatalogue, roll_back
-from ...model.texts import Members, WrongUse, path_members, pictures_in_words, shown_path
+from ...model.errors import WrongUse
+from ...model.texts import Members, path_members, pictures_in_words, shown_path
 from ...scan.relocating import ABSENT, AS_BEFORE, CHANGED, relocated
-from ..output import DIFFERENCE, SUCCESS, Output, answer, group_of
+from ..exit_codes import DIFFERENCE, SUCCESS
+from ..options import Output, group_of
+from ..output import answer
 
 
 def run(arguments: argparse.Namespace) -> int:

@@ -13,7 +13,8 @@ from ...report import contents
 from ...report.rendering import check
 from ...scan.progress import Progress
 from ..choice import choice_for
-from ..output import SUCCESS, Fields, group_of, groups_of
+from ..exit_codes import SUCCESS
+from ..options import Fields, group_of, groups_of
 from ..looking import files_of, opened
 from ..names import chosen_paths, say_unknown
 from .check import rules_of_file

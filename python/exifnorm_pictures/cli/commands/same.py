@@ -15,28 +15,16 @@ from ...fields.choosing import BY_LISTING, Choice, members_of, of_labels
 from ...fields.questions import folded, given_label
 from ...model.found import KINDS
 from ...model.records import PictureRecord
-from ...model.texts import Members, Result, WrongUse, grouped, in_words, path_members, pictures_in_words, shown_path
+from ...model.errors import WrongUse
+from ...model.texts import Members, Result, grouped, in_words, path_members, pictures_in_words, shown_path
 from .. import listed_texts
 from ..choice import choice_for
 from ..grammar import FILE, PIXELS
 from ..looking import Preparing, keep_texts, opened
 from ..names import chosen_in, say_unknown
-from ..output import (
-    UNKNOWN,
-    Fields,
-    Output,
-    Run,
-    Table,
-    group_of,
-    groups_of,
-    line_of,
-    print_line,
-    print_lines,
-    print_object,
-    say_notes,
-    status_of_results,
-    table_of,
-)
+from ..exit_codes import UNKNOWN, status_of_results
+from ..options import Fields, Output, Run, group_of, groups_of
+from ..output import Table, line_of, print_line, print_lines, print_object, say_notes, table_of
 
 if TYPE_CHECKING:
     from ...catalogue.asking import Answer, Texts

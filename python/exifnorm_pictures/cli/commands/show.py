@@ -11,7 +11,9 @@ from ...model.found import PROGRAMS
 from ...model.texts import escaped
 from ...picture import Block, Picture, ShownFields
 from ..each_block import Describe, each_block, each_picture, status_of
-from ..output import SUCCESS, UNKNOWN, Least, Table, groups_of, no_block, picture_cut, print_object, table_of, unread, width
+from ..exit_codes import SUCCESS, UNKNOWN
+from ..options import Least, groups_of
+from ..output import Table, no_block, picture_cut, print_object, table_of, unread, width
 
 
 def run(arguments: argparse.Namespace) -> int:

@@ -14,11 +14,14 @@ from ...catalogue.store import Catalogue, NoCatalogue
 from ...comparison import verified
 from ...comparison.verified import State, looker
 from ...files import atomic
-from ...model.texts import WrongUse, escaped, in_words, path_members, path_or_none, shown_path
+from ...model.errors import WrongUse
+from ...model.texts import escaped, in_words, path_members, path_or_none, shown_path
 from ...scan.index import IndexOptions, index
 from ..looking import how_of, is_quiet, opened
 from ..names import named, settle_first, with_first
-from ..output import DIFFERENCE, SUCCESS, UNKNOWN, Files, Output, Run, answer, closed_folder, groups_of, print_line
+from ..exit_codes import DIFFERENCE, SUCCESS, UNKNOWN
+from ..options import Files, Output, Run, groups_of
+from ..output import answer, closed_folder, print_line
 
 SHOWN = 10  # files that are named of each state
 # The words of --list, and the states of the files that are listed then

@@ -19,7 +19,7 @@ from ...judge.sides import Sides
 from ...model.records import PICTURES, BlockRecord, PictureRecord, block_of_row, not_read_of_row, picture_of_row
 from ...model.columns import Damaged
 from ...model.found import NotRead
-from ...model.texts import NOT_THERE
+from ...model.problems import NOT_THERE
 from ...scan.moved import content_key
 from ..coded import SAME_REST, SQL, Coded
 

@@ -17,11 +17,13 @@ from ...fields.names import group_name, group_of
 from ...files.session import Session
 from ...judge.sides import Sides
 from ...model import steps
-from ...model.found import COMPARED_FIELDS, EXIF, NAMES, OWN, PROGRAMS, WAITING_BYTES, hidden_kinds, lost_kinds
+from ...model.budgets import COMPARED_FIELDS, WAITING_BYTES
+from ...model.found import EXIF, NAMES, OWN, PROGRAMS, hidden_kinds, lost_kinds
 from ...model.records import REACHED, BlockRecord, PictureRecord, Status, is_same_file
 from ...model.rest import counting
 from ...model.steps import Step
-from ...model.texts import Problem, Result
+from ...model.problems import Problem
+from ...model.texts import Result
 from ...model.verdicts import Judged, Turns, Verdict, left_open, verdicts
 from ..coded import Coded, coded_result as result_of_coded, parts_that_differ, result_with
 from ..wording import FieldDifference, differences

@@ -11,7 +11,9 @@ from typing import Iterable, Iterator, NamedTuple, Sequence
 from ...catalogue.store import Catalogue
 from ...fields.choosing import EVERYTHING, Choice
 from ...model.found import NAMES
-from ...model.texts import NOT_THERE, Result, WrongUse, in_words, pictures_in_words, shown_path
+from ...model.errors import WrongUse
+from ...model.problems import NOT_THERE
+from ...model.texts import Result, in_words, pictures_in_words, shown_path
 from ...scan.moved import deepest, shared_folder
 from ..wording import moved
 from .edit_groups import Group, Kinds, Lacking

@@ -13,7 +13,9 @@ from ...catalogue.kept_texts import rows_of
 from ...catalogue.store import Catalogue
 from ...fields.labels import POSITION, fields_by_label
 from ...files.session import Session
-from ...model.texts import NOT_READABLE, Problem, Result, Word, whole_path
+from ...model.problems import NOT_READABLE, Problem
+from ...model.texts import Result, whole_path
+from ...model.words import Word
 from ...model.records import PictureRecord, Stamp
 from ...model.rest import counting
 from ...scan.moved import Paths, moved_together

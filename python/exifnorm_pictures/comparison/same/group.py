@@ -12,7 +12,9 @@ from typing import Callable, Iterator, NamedTuple, Sequence
 from ...model import rest
 from ...model.found import EXIF, KINDS, NAMES, XMP, XMP_FILE, lost_kinds
 from ...model.records import PictureRecord
-from ...model.texts import Problem, Result, Word, grouped, whole_path
+from ...model.problems import Problem
+from ...model.texts import Result, grouped, whole_path
+from ...model.words import Word
 from ...model.verdicts import clause, none_of, with_verb
 
 
@@ -350,6 +352,6 @@ def _key(picture: PictureRecord, reads: bool) -> _Key:
 
 def _damage_of(picture: PictureRecord) -> str:
     from ...extract import coded_picture
-    from ...model.found import Budget
+    from ...model.budgets import Budget
 
     return coded_picture.of_file(picture.path, Budget()).damage

@@ -19,7 +19,8 @@ from ...fields.packing import known_fields
 from ...model import steps
 from ...model.found import BROKEN, EXIF, IPTC, KINDS, REST, WITHOUT_IPTC, each_kind, other_name
 from ...model.records import PictureRecord, Stamp, is_marked_as, picture_of_row
-from ...model.texts import NOT_THERE, grouped, pictures_in_words
+from ...model.problems import NOT_THERE
+from ...model.texts import grouped, pictures_in_words
 from .group import OTHERS, Basis, Files, Group, Link, Shared
 
 COUNTED = "temp.counted"  # the pictures without the fields that don't count

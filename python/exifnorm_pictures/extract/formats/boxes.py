@@ -8,7 +8,8 @@ from __future__ import annotations
 
 from typing import Callable, Iterator, NamedTuple
 
-from ...model.found import BOX_BYTES, BOXES, CUT, REST, SIX, XMP, Blocks, Broken, budget_of, damage
+from ...model.budgets import BOX_BYTES, BOXES, budget_of
+from ...model.found import CUT, REST, SIX, XMP, Blocks, Broken, damage
 from ...model.tiff_types import HEADS
 from .packet_start import begins_packet
 from .streams import CREDENTIALS, Stream, leave, leave_rest, leave_whole, read_at, size_of

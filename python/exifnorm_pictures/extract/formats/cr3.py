@@ -9,7 +9,8 @@ from __future__ import annotations
 import io
 import struct
 
-from ...model.found import EXIF, EXTENTS, Blocks, Broken, Budget, LeftToOthers, NotRead, budget_of
+from ...model.budgets import EXTENTS, Budget, budget_of
+from ...model.found import EXIF, Blocks, Broken, LeftToOthers, NotRead
 from ...model.tiff_types import HEADS, LONG
 from ..structure import gaps
 from . import canon

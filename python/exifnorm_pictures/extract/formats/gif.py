@@ -5,7 +5,8 @@ Not compared, because they contain no Exif, IPTC or XMP: comments, plain texts, 
 
 from __future__ import annotations
 
-from ...model.found import BLOCK_BYTES, EXTENSIONS, IPTC, XMP, Blocks, Broken, budget_of
+from ...model.budgets import BLOCK_BYTES, EXTENSIONS, budget_of
+from ...model.found import IPTC, XMP, Blocks, Broken
 from . import photoshop
 from .streams import CREDENTIALS, PIECE, Stream, leave, leave_rest, size_of
 

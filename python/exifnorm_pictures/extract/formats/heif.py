@@ -10,7 +10,8 @@ import zlib
 from operator import itemgetter
 from typing import Callable, NamedTuple
 
-from ...model.found import BOX_BYTES, EXIF, EXTENTS, IN_PICTURE, ITEMS, XMP, Blocks, Broken, NotRead, budget_of
+from ...model.budgets import BOX_BYTES, EXTENTS, ITEMS, budget_of
+from ...model.found import EXIF, IN_PICTURE, XMP, Blocks, Broken, NotRead
 from . import canon
 from .boxes import XMP_UUID, Box, Fields, add_xmp, boxes, boxes_of_file, content, exif_in
 from .streams import Stream, digest_of_parts, leave, read_at, size_of

@@ -7,7 +7,8 @@ IPTC or XMP: the codestream with its comments, colour profiles.
 from __future__ import annotations
 
 
-from ...model.found import CHUNKS, EXIF, IN_PICTURE, IPTC, SIX, Blocks, Broken, budget_of
+from ...model.budgets import CHUNKS, budget_of
+from ...model.found import EXIF, IN_PICTURE, IPTC, SIX, Blocks, Broken
 from . import photoshop, tiff
 from .boxes import XMP_UUID, Box, add_xml, add_xmp, boxes, boxes_of_file, content
 from .streams import Stream, Window, leave, read_at, size_of

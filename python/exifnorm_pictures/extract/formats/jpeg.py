@@ -14,23 +14,8 @@ from typing import Iterator
 from exifnorm._jpeg import RESOURCE_REST, rest_parts
 
 from ...fields.xmp_properties import line_of
-from ...model.found import (
-    CUT,
-    EXIF,
-    IPTC,
-    RESOURCES,
-    REST,
-    SIX,
-    XMP,
-    XMP_HEAD,
-    Blocks,
-    Broken,
-    Budget,
-    FoundBlock,
-    NotRead,
-    budget_of,
-    ordinal,
-)
+from ...model.budgets import RESOURCES, Budget, budget_of
+from ...model.found import CUT, EXIF, IPTC, REST, SIX, XMP, XMP_HEAD, Blocks, Broken, FoundBlock, NotRead, ordinal
 from ...model.xmp_names import short_name
 from ..structure import PRIVATE_TAGS
 from . import jpeg_tail, photoshop

@@ -8,7 +8,7 @@ from typing import NamedTuple
 import exifnorm
 from exifnorm._jpeg import PART_KINDS, PartRow, rows_or_fault, whole_blocks
 
-from ...model.found import SEGMENTS, SEGMENT_BYTES, Budget
+from ...model.budgets import SEGMENTS, SEGMENT_BYTES, Budget
 from .streams import COMMENT, PROFILE, HEAD, Stream
 
 SOI, EOI, SOS, COM = 0xD8, 0xD9, 0xDA, 0xFE

@@ -11,7 +11,8 @@ import re
 import struct
 from typing import Iterator, NamedTuple
 
-from ...model.found import SCAN_SEGMENTS, Broken, TooMuch, budget_of
+from ...model.budgets import SCAN_SEGMENTS, TooMuch, budget_of
+from ...model.found import Broken
 from ...model.tiff_types import HEADS
 from ..structure import directories, order_of
 from .jpeg_segments import APP1, APP13, EOI

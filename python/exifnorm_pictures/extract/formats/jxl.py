@@ -8,7 +8,8 @@ bytes.
 from __future__ import annotations
 
 
-from ...model.found import COMPRESSED, EXIF, XMP, Blocks, Broken, budget_of
+from ...model.budgets import budget_of
+from ...model.found import COMPRESSED, EXIF, XMP, Blocks, Broken
 from .boxes import XMP_UUID, Box, add_xml, add_xmp, boxes_of_file, content, credentials_in, exif_in, leave_cut
 from .streams import Stream, leave, read_at
 

@@ -11,7 +11,8 @@ from typing import Iterator, Sequence
 
 import exifnorm
 
-from ...model.found import EXIF, FEW, IPTC, LIMITS, RESOURCES, SIX, XMP, Blocks, TooMuch
+from ...model.budgets import LIMITS, RESOURCES, TooMuch
+from ...model.found import EXIF, FEW, IPTC, SIX, XMP, Blocks
 from .streams import METADATA, REST, STRUCTURE, Joined, Part, Range
 
 HEAD = b"Photoshop 3.0\0"

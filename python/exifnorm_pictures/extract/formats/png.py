@@ -10,7 +10,8 @@ import zlib
 from functools import partial
 from typing import Iterable, Iterator
 
-from ...model.found import CHUNK_BYTES, CHUNKS, EXIF, IPTC, SIX, XMP, XMP_HEAD, Blocks, Broken, Budget, budget_of
+from ...model.budgets import CHUNK_BYTES, CHUNKS, Budget, budget_of
+from ...model.found import EXIF, IPTC, SIX, XMP, XMP_HEAD, Blocks, Broken
 from . import photoshop
 from .streams import (
     CREDENTIALS,

@@ -9,7 +9,8 @@ from __future__ import annotations
 import struct
 from typing import NamedTuple
 
-from ...model.found import IN_PICTURE, RESOURCE_BYTES, RESOURCES, STRIPS, Blocks, Broken, NotRead, budget_of
+from ...model.budgets import RESOURCE_BYTES, RESOURCES, STRIPS, budget_of
+from ...model.found import IN_PICTURE, Blocks, Broken, NotRead
 from . import photoshop
 from .streams import Stream, leave, pieces, read_at, size_of
 from .trailers import known_trailer, leave_trailer

@@ -7,7 +7,8 @@ lengths of the parts as numbers of four bytes, the high byte first.
 from __future__ import annotations
 
 
-from ...model.found import EXIF, Blocks, Broken, NotRead, budget_of
+from ...model.budgets import budget_of
+from ...model.found import EXIF, Blocks, Broken, NotRead
 from ...model.tiff_types import HEADS
 from .streams import Stream, Window, leave_rest, leave_whole, read_at, size_of
 from .embedded import add_jpeg

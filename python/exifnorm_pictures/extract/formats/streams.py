@@ -14,7 +14,8 @@ from typing import Callable, Iterable, Iterator, NamedTuple, Protocol, Sequence
 
 from ...files import opening
 from ...files.copying import is_hollow
-from ...model.found import BYTES_READ, HOLES, Blocks, Broken, Budget, NotRead, budget_of
+from ...model.budgets import BYTES_READ, HOLES, Budget, budget_of
+from ...model.found import Blocks, Broken, NotRead
 from ...model.texts import grouped, in_words
 
 CHUNK = 1 << 18

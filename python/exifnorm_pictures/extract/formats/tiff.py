@@ -13,8 +13,9 @@ from collections import deque
 from operator import itemgetter
 from typing import Iterable, Iterator, NamedTuple
 
-from ...model.found import CUT, DIRECTORIES, EXIF, IN_PICTURE, IPTC, REST, STRIPS, XMP, Blocks, Broken, NotRead
-from ...model.texts import Problem
+from ...model.budgets import DIRECTORIES, STRIPS
+from ...model.found import CUT, EXIF, IN_PICTURE, IPTC, REST, XMP, Blocks, Broken, NotRead
+from ...model.problems import Problem
 from ...model.tiff_types import HEADS, IFD, LONG
 from ..structure import counted, placed
 from . import photoshop

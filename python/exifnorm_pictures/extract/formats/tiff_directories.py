@@ -13,7 +13,8 @@ from typing import Container, Iterator, NamedTuple
 
 from exifnorm import LIMIT
 
-from ...model.found import DIRECTORIES, ENTRIES, VALUE_BYTES, Broken, budget_of
+from ...model.budgets import DIRECTORIES, ENTRIES, VALUE_BYTES, budget_of
+from ...model.found import Broken
 from ...model.tiff_types import BIG_TIFF, IFD, IFD8, LONG, LONG8, SHORT, SLONG, SLONG8, TIFF, Type
 from .streams import Stream, read_at, size_of
 

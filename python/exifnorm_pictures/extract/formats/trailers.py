@@ -11,7 +11,8 @@ import re
 import struct
 from typing import Callable, NamedTuple
 
-from ...model.found import IPTC, RESOURCE_BYTES, RESOURCES, XMP, Blocks, Broken, NotRead, budget_of
+from ...model.budgets import RESOURCE_BYTES, RESOURCES, budget_of
+from ...model.found import IPTC, XMP, Blocks, Broken, NotRead
 from ...model.texts import in_words
 from .streams import Stream, digest_of_rest, is_blank, read_at
 

@@ -6,7 +6,8 @@ from __future__ import annotations
 import struct
 from typing import Iterable, Iterator
 
-from ...model.found import CHUNK_BYTES, CHUNKS, EXIF, SIX, XMP, Blocks, Broken, Budget, budget_of
+from ...model.budgets import CHUNK_BYTES, CHUNKS, Budget, budget_of
+from ...model.found import EXIF, SIX, XMP, Blocks, Broken
 from .streams import (
     CREDENTIALS,
     METADATA,

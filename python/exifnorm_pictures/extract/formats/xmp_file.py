@@ -2,7 +2,8 @@
 
 from __future__ import annotations
 
-from ...model.found import PACKET_BYTES, XMP, XMP_FILE, Blocks, LeftToOthers, TooMuch, budget_of
+from ...model.budgets import PACKET_BYTES, TooMuch, budget_of
+from ...model.found import XMP, XMP_FILE, Blocks, LeftToOthers
 from .packet_start import begins_packet
 from .streams import HEAD, Stream, read_at, size_of
 
