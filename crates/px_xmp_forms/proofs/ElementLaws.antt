@@ -1,6 +1,8 @@
 -- The elements of values, as they are appended to nothing.
-use Rattle.std.proofs.Common.{◌≡◌, ◌≤◌, ◌+◌, ◌++◌, ◌∙◌, refl, ℕ, List, [], codes, sym, ap, subst, length, length-append, append_assoc, arith, take, drop}
+use Rattle.std.proofs.Common.{◌≡◌, ◌≤◌, ◌+◌, ◌++◌, ◌∷◌, ◌∙◌, refl, ℕ, List, [], codes, sym, ap, subst, length, length-append, append_assoc, arith, take, drop}
 use Rattle.std.proofs.lemmas.List.{take_at, drop_at}
+use Rattle.std.proofs.lemmas.Grind.{common_steps}
+use Rattle.std.specs.Str.{str_to_ascii_lowercase}
 use Rattle.px_xmp_text.specs.Texts.{normal_text}
 use Rattle.px_xmp_text.specs.Values.{Label, Compound, Content, Literal, Uri, End, Flat, Nested, IsLabel, IsContent, Without}
 use Rattle.px_xmp_text.specs.Values.{opening_tag, end_tag, compound_start, compound_end, written}
@@ -69,6 +71,11 @@ around b s t e f g z n ee en ef eg =
     ap (λ (w : List ℕ). w ++ z ++ g) front ∙ ap (λ (w : List ℕ). b ++ z ++ w) back ∙ sym (append_assoc (b ++ z) s t)
 
 -- ---- their lengths, by their parts
+
+-- a language has as many octets in lower case
+pub lower_octets : (y : List ℕ) → length (language_octets (str_to_ascii_lowercase y)) ≡ length (language_octets y)
+lower_octets [] = refl
+lower_octets (o ∷ y) = grind (arith, common_steps)
 
 parts_length : (a b c d x : List ℕ) → a ++ b ++ c ++ d ≡ x → length x ≡ length a + length b + length c + length d
 parts_length a b c d x e =

@@ -1,7 +1,9 @@
 // Octets and texts, appended to a form.
 // `Err` of a call is why it writes nothing more: `Content`, what can't be written, as a form
 // that is too long; or `OutOfMemory`, a failed allocation.
-ghost use Rattle.std.specs.Prelude.{◌≡◌, ◌≤◌, ◌+◌, ◌++◌, ◌∷◌, length, List, ℕ, true, Some, is_some, OnOk, IfOk};
+ghost use Rattle.std.specs.Prelude.{◌≡◌, ◌≤◌, ◌+◌, ◌*◌, ◌++◌, ◌∷◌, length, List, ℕ, true, Some, is_some, min, OnOk, IfOk};
+ghost use Rattle.std.specs.Prelude.{vec_len, vec_capacity};
+ghost use Rattle.px_bytes.specs.Allocations.{AsksAtMost, enlarged};
 ghost use Rattle.px_bytes.specs.Parts.{limit};
 ghost use Rattle.px_xmp_text.specs.Texts.{text_of, normal_text};
 ghost use Rattle.px_xmp_text.specs.declared.pieces.TextKind.TheVariants.{AttributeValue};
@@ -28,14 +30,16 @@ pub(crate) fn has_space(len: usize, more: usize) -> bool
     len <= MOST && more <= MOST - len
 }
 
-// Makes space for `more` further octets, which then are appended without growing again.
+// Makes space for exactly `more` further octets, or for `MOST`, which then are appended without growing again.
 pub(crate) fn reserve(memory: &mut Memory, out: &mut Vec<u8>, more: usize) -> Result<(), Refusal>
     ensures items { OnOk result (out.new.items ≡ out.old.items) }
     ensures memory { CountsAllocFailureInPacket result memory.old memory.new }
     ensures rare { IsRare result }
     ensures accepts { FailsByMemory result }
+    ensures space { OnOk result (vec_len out.new + min most more ≤ vec_capacity out.new) }
+    ensures asked { AsksAtMost (vec_len out.old + more) memory.old memory.new }
 {
-    memory.reserve(out, more.min(MOST))?;
+    memory.reserve_exact(out, more.min(MOST))?;
     Ok(())
 }
 
@@ -45,6 +49,9 @@ pub fn append(memory: &mut Memory, out: &mut Vec<u8>, octets: &[u8]) -> Result<(
     ensures memory { CountsAllocFailureInPacket result memory.old memory.new }
     ensures rare { IsRare result }
     ensures accepts { length out.old.items + length octets.now ≤ most → FailsByMemory result }
+    ensures capacity { vec_capacity out.old ≤ vec_capacity out.new }
+    ensures fits { min most (length out.old.items + length octets.now) ≤ vec_capacity out.old → memory.new.asked ≡ memory.old.asked }
+    ensures asked { AsksAtMost (enlarged (vec_capacity out.old) (length out.old.items + length octets.now)) memory.old memory.new }
 {
     if octets.is_empty() {
         return Ok(());
@@ -68,6 +75,7 @@ pub fn append_text(
     ensures memory { CountsAllocFailureInPacket result memory.old memory.new }
     ensures rare { IsRare result }
     ensures accepts { TextFits kind octets.now (length out.old.items) → FailsByMemory result }
+    ensures asked { AsksAtMost (enlarged (vec_capacity out.old) (length out.old.items + 5 * length octets.now)) memory.old memory.new }
 {
     px_xmp_text::laws::fault_or_text();
     if octets.len() > LIMIT {
@@ -98,6 +106,7 @@ fn value_form(memory: &mut Memory, octets: &[u8]) -> Result<Vec<u8>, Refusal>
     ensures memory { CountsAllocFailureInPacket result memory.old memory.new }
     ensures rare { IsRare result }
     ensures accepts { length octets.now ≤ limit → FailsByMemory result }
+    ensures asked { AsksAtMost (10 * length octets.now + 4) memory.old memory.new }
 {
     if octets.len() > LIMIT {
         return Err(Cause::RareLength.at(LIMIT));
@@ -113,6 +122,7 @@ pub fn same_text(memory: &mut Memory, a: &[u8], b: &[u8]) -> Result<bool, Refusa
     ensures memory { CountsAllocFailureInPacket result memory.old memory.new }
     ensures rare { IsRare result }
     ensures accepts { length a.now ≤ limit → length b.now ≤ limit → FailsByMemory result }
+    ensures asked { AsksAtMost (10 * (length a.now + length b.now) + 8) memory.old memory.new }
 {
     if a == b {
         return Ok(true);

@@ -1,7 +1,7 @@
 // The elements of the normal form: a property or a member with its value.
 // `Err` of a call is why it writes nothing more: `Content`, what can't be written, as a form
 // that is too long; or `OutOfMemory`, a failed allocation.
-ghost use Rattle.std.specs.Prelude.{◌≡◌, ◌≤◌, ◌+◌, ◌++◌, [], ℕ, List, length, OnOk, IfOk};
+ghost use Rattle.std.specs.Prelude.{◌≡◌, ◌≤◌, ◌+◌, ◌++◌, [], ℕ, List, length, min, vec_capacity, OnOk, IfOk};
 ghost use Rattle.std.specs.Str.{str_to_ascii_lowercase};
 ghost use Rattle.px_xmp_text.specs.Texts.{normal_text};
 ghost use Rattle.px_xmp_text.specs.Values.{IsLabel, IsContent, Without, Literal, Uri, written};
@@ -11,8 +11,9 @@ ghost use Rattle.px_xmp_forms.specs.Outputs.{IsElement, value_of};
 ghost use Rattle.px_xmp_forms.specs.Forms.{most, language_octets, HaveShortLanguages, IsTextForm};
 ghost use Rattle.px_xmp_forms.specs.Languages.{language_limit};
 ghost use Rattle.px_xmp_forms.specs.Labels.{label_view, compound_view};
-ghost use Rattle.px_xmp_forms.specs.Allocations.{CountsAllocFailureInPacket};
+ghost use Rattle.px_xmp_forms.specs.Allocations.{CountsAllocFailureInPacket, tag_octets, text_request, uri_request};
 ghost use Rattle.px_xmp_forms.specs.Causes.{IsRare, FailsByMemory};
+ghost use Rattle.px_bytes.specs.Allocations.{AsksAtMost};
 
 use crate::appending::{LIMIT, append, reserve};
 use crate::faults::{Cause, Refusal};
@@ -41,12 +42,18 @@ const RESOURCE: usize = 18;
 const LANGUAGE: usize = 13;
 
 // The space for the element of a label around `more` octets.
-fn element_size(label: Label, more: usize) -> usize {
+fn element_size(label: Label, more: usize) -> usize
+    ensures bound { result ≤ tag_octets (label_view label.entry) + more }
+    ensures enough { min most (tag_octets (label_view label.entry) + more) ≤ result }
+{
     label_size(label).saturating_add(more)
 }
 
 // The space for the attribute for a language, with the end of the start tag, and a text.
-fn text_size(language: &[u8], content: &[u8]) -> usize {
+fn text_size(language: &[u8], content: &[u8]) -> usize
+    ensures bound { result ≤ length (language_octets language.now) + length content.now }
+    ensures enough { min most (length (language_octets language.now) + length content.now) ≤ result }
+{
     if language.is_empty() {
         return content.len().saturating_add(1);
     }
@@ -62,6 +69,7 @@ fn lower(memory: &mut Memory, language: &[u8]) -> Result<Vec<u8>, Refusal>
     ensures memory { CountsAllocFailureInPacket result memory.old memory.new }
     ensures rare { IsRare result }
     ensures accepts { FailsByMemory result }
+    ensures asked { length language.now ≤ most → AsksAtMost (length language.now) memory.old memory.new }
 {
     let mut octets = memory.list();
     reserve(memory, &mut octets, language.len())?;
@@ -78,6 +86,9 @@ fn append_attribute(memory: &mut Memory, out: &mut Vec<u8>, language: &[u8]) -> 
     ensures memory { CountsAllocFailureInPacket result memory.old memory.new }
     ensures rare { IsRare result }
     ensures accepts { length out.old.items + length (language_octets language.now) ≤ most → FailsByMemory result }
+    ensures capacity { vec_capacity out.old ≤ vec_capacity out.new }
+    ensures fits { min most (length out.old.items + length (language_octets language.now)) ≤ vec_capacity out.old
+        → memory.new.asked ≡ memory.old.asked }
 {
     append(memory, out, b" xml:lang=\"")?;
     append(memory, out, language)?;
@@ -93,6 +104,9 @@ fn append_language(memory: &mut Memory, out: &mut Vec<u8>, language: &[u8]) -> R
     ensures rare { IsRare result }
     ensures accepts { Without 34 (str_to_ascii_lowercase language.now) → length (str_to_ascii_lowercase language.now) ≤ language_limit
         → length out.old.items + length (language_octets (str_to_ascii_lowercase language.now)) ≤ most → FailsByMemory result }
+    ensures capacity { vec_capacity out.old ≤ vec_capacity out.new }
+    ensures asked { min most (length out.old.items + length (language_octets language.now)) ≤ vec_capacity out.old
+        → AsksAtMost (length language.now) memory.old memory.new }
 {
     if language.is_empty() {
         return append(memory, out, b">");
@@ -124,6 +138,7 @@ fn literal_element(
     ensures rare { IsRare result }
     ensures accepts { (t : List ℕ) → content.now ≡ normal_text t
         → ValueFits (label_view label.entry) (Plain (Literal (str_to_ascii_lowercase language.now) t)) → FailsByMemory result }
+    ensures asked { AsksAtMost (text_request (label_view label.entry) language.now content.now) memory.old memory.new }
 {
     let mut octets = memory.list();
     reserve(
@@ -150,6 +165,7 @@ fn resource_element(memory: &mut Memory, label: Label, uri: &TextForm) -> Result
     ensures memory { CountsAllocFailureInPacket result memory.old memory.new }
     ensures rare { IsRare result }
     ensures accepts { (t : List ℕ) → uri.now ≡ normal_text t → ValueFits (label_view label.entry) (Plain (Uri t)) → FailsByMemory result }
+    ensures asked { AsksAtMost (uri_request (label_view label.entry) uri.now) memory.old memory.new }
 {
     let uri = uri.octets();
     if has(uri, b'"') {
@@ -215,6 +231,7 @@ pub(crate) fn text_element(
     ensures rare { IsRare result }
     ensures accepts { (t : List ℕ) → content.now ≡ normal_text t
         → ValueFits (label_view label.entry) (Plain (Literal (str_to_ascii_lowercase language.now) t)) → FailsByMemory result }
+    ensures asked { AsksAtMost (text_request (label_view label.entry) language.now content.now) memory.old memory.new }
 {
     if !is_label(label) {
         return Err(Cause::RareNamespace.at(LIMIT));

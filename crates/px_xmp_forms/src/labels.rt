@@ -1,12 +1,12 @@
 // The tags of the normal form.
 // `Err` of a call is why it writes nothing more: `Content`, what can't be written, as a form
 // that is too long; or `OutOfMemory`, a failed allocation.
-ghost use Rattle.std.specs.Prelude.{◌≡◌, ◌≤◌, ◌+◌, ◌++◌, ◌↔◌, [], true, length, OnOk};
+ghost use Rattle.std.specs.Prelude.{◌≡◌, ◌≤◌, ◌+◌, ◌++◌, ◌↔◌, [], true, length, min, vec_capacity, OnOk};
 ghost use Rattle.px_xmp_text.specs.Values.{opening_tag, end_tag, compound_start, compound_end, IsLabel};
 ghost use Rattle.px_xmp_forms.specs.Forms.{most, has};
 ghost use Rattle.px_xmp_forms.specs.Labels.{label_of};
 ghost use Rattle.px_xmp_forms.specs.Labels.{label_view, property_view, local_octets, container_view, compound_view, container_octets};
-ghost use Rattle.px_xmp_forms.specs.Allocations.{CountsAllocFailureInPacket};
+ghost use Rattle.px_xmp_forms.specs.Allocations.{CountsAllocFailureInPacket, tag_octets};
 ghost use Rattle.px_xmp_forms.specs.Causes.{IsRare, FailsByMemory};
 
 use crate::appending::append;
@@ -90,7 +90,10 @@ pub enum Content<'a> {
 }
 
 // The number of octets of a property's tags, without what is between them.
-fn property_size(name: Property) -> usize {
+fn property_size(name: Property) -> usize
+    ensures bound { result ≤ tag_octets (property_view name.entry) }
+    ensures enough { min most (tag_octets (property_view name.entry)) ≤ result }
+{
     let local = name.head.len().saturating_add(name.local.len());
     let tags = b"<p: xmlns:p=\"\"</p:>"
         .len()
@@ -99,7 +102,10 @@ fn property_size(name: Property) -> usize {
 }
 
 // The number of octets of an element's tags, without the end of its start tag and what is between them.
-pub(crate) fn label_size(label: Label) -> usize {
+pub(crate) fn label_size(label: Label) -> usize
+    ensures bound { result ≤ tag_octets (label_view label.entry) }
+    ensures enough { min most (tag_octets (label_view label.entry)) ≤ result }
+{
     match label {
         Label::Property(name) => property_size(name),
         Label::Member => b"<rdf:li</rdf:li>".len(),
@@ -112,6 +118,8 @@ fn append_local(memory: &mut Memory, out: &mut Vec<u8>, name: Property) -> Resul
     ensures memory { CountsAllocFailureInPacket result memory.old memory.new }
     ensures rare { IsRare result }
     ensures accepts { length out.old.items + length (local_octets name.entry) ≤ most → FailsByMemory result }
+    ensures capacity { vec_capacity out.old ≤ vec_capacity out.new }
+    ensures fits { min most (length out.old.items + length (local_octets name.entry)) ≤ vec_capacity out.old → memory.new.asked ≡ memory.old.asked }
 {
     append(memory, out, name.head)?;
     append(memory, out, name.local)
@@ -123,6 +131,8 @@ fn append_property(memory: &mut Memory, out: &mut Vec<u8>, name: Property) -> Re
     ensures memory { CountsAllocFailureInPacket result memory.old memory.new }
     ensures rare { IsRare result }
     ensures accepts { length out.old.items + length (opening_tag (property_view name.entry) []) ≤ most → FailsByMemory result }
+    ensures capacity { vec_capacity out.old ≤ vec_capacity out.new }
+    ensures fits { min most (length out.old.items + length (opening_tag (property_view name.entry) [])) ≤ vec_capacity out.old → memory.new.asked ≡ memory.old.asked }
 {
     append(memory, out, b"<p:")?;
     append_local(memory, out, name)?;
@@ -141,6 +151,8 @@ pub(crate) fn append_label(
     ensures memory { CountsAllocFailureInPacket result memory.old memory.new }
     ensures rare { IsRare result }
     ensures accepts { length out.old.items + length (opening_tag (label_view label.entry) []) ≤ most → FailsByMemory result }
+    ensures capacity { vec_capacity out.old ≤ vec_capacity out.new }
+    ensures fits { min most (length out.old.items + length (opening_tag (label_view label.entry) [])) ≤ vec_capacity out.old → memory.new.asked ≡ memory.old.asked }
 {
     match label {
         Label::Property(name) => append_property(memory, out, name),
@@ -158,6 +170,8 @@ fn append_property_end(
     ensures memory { CountsAllocFailureInPacket result memory.old memory.new }
     ensures rare { IsRare result }
     ensures accepts { length out.old.items + length (end_tag (property_view name.entry) []) ≤ most → FailsByMemory result }
+    ensures capacity { vec_capacity out.old ≤ vec_capacity out.new }
+    ensures fits { min most (length out.old.items + length (end_tag (property_view name.entry) [])) ≤ vec_capacity out.old → memory.new.asked ≡ memory.old.asked }
 {
     append(memory, out, b"</p:")?;
     append_local(memory, out, name)?;
@@ -174,6 +188,8 @@ pub(crate) fn append_label_end(
     ensures memory { CountsAllocFailureInPacket result memory.old memory.new }
     ensures rare { IsRare result }
     ensures accepts { length out.old.items + length (end_tag (label_view label.entry) []) ≤ most → FailsByMemory result }
+    ensures capacity { vec_capacity out.old ≤ vec_capacity out.new }
+    ensures fits { min most (length out.old.items + length (end_tag (label_view label.entry) [])) ≤ vec_capacity out.old → memory.new.asked ≡ memory.old.asked }
 {
     match label {
         Label::Property(name) => append_property_end(memory, out, name),
@@ -191,6 +207,8 @@ fn append_container(
     ensures memory { CountsAllocFailureInPacket result memory.old memory.new }
     ensures rare { IsRare result }
     ensures accepts { length out.old.items + length (compound_start (container_view container) []) ≤ most → FailsByMemory result }
+    ensures capacity { vec_capacity out.old ≤ vec_capacity out.new }
+    ensures fits { min most (length out.old.items + length (compound_start (container_view container) [])) ≤ vec_capacity out.old → memory.new.asked ≡ memory.old.asked }
 {
     append(memory, out, b"><")?;
     append(memory, out, container.name())
@@ -206,6 +224,8 @@ fn append_container_end(
     ensures memory { CountsAllocFailureInPacket result memory.old memory.new }
     ensures rare { IsRare result }
     ensures accepts { length out.old.items + length (compound_end (container_view container) []) ≤ most → FailsByMemory result }
+    ensures capacity { vec_capacity out.old ≤ vec_capacity out.new }
+    ensures fits { min most (length out.old.items + length (compound_end (container_view container) [])) ≤ vec_capacity out.old → memory.new.asked ≡ memory.old.asked }
 {
     append(memory, out, b"</")?;
     append(memory, out, container.name())
@@ -221,6 +241,8 @@ pub(crate) fn append_start(
     ensures memory { CountsAllocFailureInPacket result memory.old memory.new }
     ensures rare { IsRare result }
     ensures accepts { length out.old.items + length (compound_start (compound_view container) []) ≤ most → FailsByMemory result }
+    ensures capacity { vec_capacity out.old ≤ vec_capacity out.new }
+    ensures fits { min most (length out.old.items + length (compound_start (compound_view container) [])) ≤ vec_capacity out.old → memory.new.asked ≡ memory.old.asked }
 {
     match container {
         Some(container) => append_container(memory, out, container),
@@ -239,6 +261,8 @@ pub(crate) fn append_stop(
     ensures memory { CountsAllocFailureInPacket result memory.old memory.new }
     ensures rare { IsRare result }
     ensures accepts { length out.old.items + length (compound_end (compound_view container) []) ≤ most → FailsByMemory result }
+    ensures capacity { vec_capacity out.old ≤ vec_capacity out.new }
+    ensures fits { min most (length out.old.items + length (compound_end (compound_view container) [])) ≤ vec_capacity out.old → memory.new.asked ≡ memory.old.asked }
 {
     match container {
         Some(container) => append_container_end(memory, out, container),

@@ -1,8 +1,9 @@
 // The output: of each element that is open what was read of it.
 // `Err` of a call is why it writes nothing more: `Content`, what can't be written, as a form
 // that is too long; or `OutOfMemory`, a failed allocation.
-ghost use Rattle.std.specs.Prelude.{◌≡◌, ◌≤◌, ◌∷◌, [], ℕ, List, Some, length, drop, IfOk, OnOk, MatchOption};
+ghost use Rattle.std.specs.Prelude.{◌≡◌, ◌≤◌, ◌+◌, ◌∷◌, [], ℕ, List, Some, length, drop, IfOk, OnOk, MatchOption};
 ghost use Rattle.px_bytes.specs.Parts.{limit};
+ghost use Rattle.px_bytes.specs.Allocations.{AsksAtMost};
 ghost use Rattle.px_xmp_text.specs.Texts.{text_of, normal_text};
 ghost use Rattle.px_xmp_text.specs.Values.{End, IsContent, written, normal_packet};
 ghost use Rattle.px_xmp_text.specs.declared.pieces.TextKind.TheVariants.{AttributeValue};
@@ -367,7 +368,7 @@ impl Output {
         }
     }
 
-    /// The whole form of the packet. `Content`: it is too long.
+    /// The whole form of the packet, for which no more than its octets are asked for. `Content`: it is too long.
     pub fn whole(&self, memory: &mut Memory) -> Result<Vec<u8>, Refusal>
         ensures value { (s : State) → Has self.now s → IfOk result (λ form. form.items ≡ normal_packet s.properties) }
         ensures normal { IfOk result (λ form. IsNormal form.items) }
@@ -375,6 +376,7 @@ impl Output {
         ensures memory { CountsAllocFailureInPacket result memory.old memory.new }
         ensures rare { IsRare result }
         ensures accepts { (s : State) → Has self.now s → length (normal_packet s.properties) ≤ limit → FailsByMemory result }
+        ensures asked { (s : State) → Has self.now s → AsksAtMost (length (written s.properties []) + 171) memory.old memory.new }
     {
         let mut form = memory.list();
         let properties = self.properties.octets();
