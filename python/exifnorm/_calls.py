@@ -2,19 +2,19 @@
 
 from __future__ import annotations
 
-import hashlib
-from mmap import mmap
-from typing import Any, Callable, NoReturn, Optional, TypeVar, Union, cast
-
 from . import _library
 from ._errors import LIMIT, NormalTooLong, Refused
-from ._library import Failure, Status, library
+from ._library import Status, library
 from ._words import EXIF, IPTC
 
-_Call = TypeVar("_Call", bound=Callable[..., Any])
+TYPE_CHECKING = False  # that of `typing`, which takes long to import
+if TYPE_CHECKING:
+    from typing import Any, Callable, NoReturn, Optional, TypeVar
 
-Octets = Union[bytes, bytearray, memoryview, mmap]
-"""A block's bytes. Any other object with contiguous bytes works too, such as an array."""
+    from ._fields import Octets
+    from ._library import Failure
+
+    _Call = TypeVar("_Call", bound=Callable[..., Any])
 
 _KINDS = {1: EXIF, 2: IPTC}
 _PREFIX = b"Exif\0\0"  # of an Exif segment: CIPA DC-008, 4.7.2
@@ -65,7 +65,7 @@ def in_c(call: _Call) -> _Call:
     native.in_python, native.raise_failure = call, _raise
     function = getattr(native, call.__name__)
     function.__module__ = call.__module__  # where pickle and help find it
-    return cast(_Call, function)
+    return function  # type: ignore[no-any-return]
 
 
 def version() -> str:
@@ -131,6 +131,8 @@ def digest(block: Octets, algorithm: str = "sha256") -> str:
     >>> digest(b"\\x1c\\x02\\x78\\x80\\x04\\x00\\x00\\x00\\x04Vase") == digest(b"\\x1c\\x02\\x78\\x00\\x04Vase")
     True
     """
+    import hashlib  # which few calls need
+
     counted = hashlib.new(algorithm)
     if not counted.digest_size:
         raise ValueError(f"digests of {algorithm} have no length of their own")

@@ -7,7 +7,8 @@ import re
 import struct
 from typing import List, NamedTuple, Optional
 
-from ._calls import Octets, captions_text
+from ._calls import captions_text
+from ._fields import Octets
 from ._reading import fields
 from ._words import documented
 

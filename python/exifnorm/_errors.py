@@ -3,9 +3,11 @@
 from __future__ import annotations
 
 import warnings
-from typing import TYPE_CHECKING, Optional, Sequence, Tuple
 
+TYPE_CHECKING = False  # that of `typing`, which takes long to import
 if TYPE_CHECKING:
+    from typing import Optional, Sequence, Tuple
+
     from ._jpeg import JpegBlock, JpegPart
 
 LIMIT = 16_777_216

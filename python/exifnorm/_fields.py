@@ -1,10 +1,15 @@
-"""Objects for the meaning of a block."""
+"""Objects for a block and its meaning."""
 
 from __future__ import annotations
 
-from typing import NamedTuple, Tuple, Union
+from mmap import mmap
+from typing import Tuple, Union
 
+from ._named import NamedTuple
 from ._words import documented
+
+Octets = Union[bytes, bytearray, memoryview, mmap]
+"""A block's bytes. Any other object with contiguous bytes works too, such as an array."""
 
 
 @documented

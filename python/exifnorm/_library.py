@@ -23,12 +23,27 @@ import ctypes
 import enum
 import functools
 import importlib
-import importlib.util
 import os
 from struct import Struct
-from typing import Any, Callable, Dict, Iterator, List, Tuple, Type, Union
 
 from ._errors import LIMIT, LibraryMissing
+
+TYPE_CHECKING = False  # that of `typing`, which takes long to import
+if TYPE_CHECKING:
+    from typing import Any, Callable, Dict, Iterator, List, Tuple, Type, Union
+
+    # The status of a call that returns no result, and the number of the cause and the byte offset if a block is refused
+    Failure = Tuple[int, int, int]
+    # The same of two JPEGs: the status, the number of the cause, the number of the block's kind or 0, its index, and the byte offset. For a
+    # place that isn't read the status, 0, 1 if it is in the joined bytes, 0, and the byte offset
+    PictureFailure = Tuple[int, int, int, int, int]
+    Number = Union[int, Failure]
+    Pair = Union[int, PictureFailure]
+    Text = Union[bytes, Failure]
+    Rows = Union[bytes, Tuple[int, int, int, bytes]]
+    Places = Union[Tuple[bytes, bytes], Tuple[int, int, int, bytes, bytes]]
+    UnreadPlace = Union[Tuple[()], Tuple[int, int], Failure]
+    XmpPlace = Union[Tuple[()], Tuple[int, int], Failure]
 
 
 def _extension() -> Any:
@@ -43,21 +58,6 @@ _native = _extension()
 
 NAME = "exifnorm.dll" if os.name == "nt" else "libexifnorm.so.1"
 NAME_ROOM = 32  # bytes of the longest constant text of the library
-
-Failure = Tuple[int, int, int]
-"""The status of a call that returns no result, and the number of the cause and the byte offset if a block is refused."""
-
-PictureFailure = Tuple[int, int, int, int, int]
-"""The same of two JPEGs: the status, the number of the cause, the number of the block's kind or 0, its index, and the byte offset. For a place
-that isn't read the status, 0, 1 if it is in the joined bytes, 0, and the byte offset."""
-
-Number = Union[int, Failure]
-Pair = Union[int, PictureFailure]
-Text = Union[bytes, Failure]
-Rows = Union[bytes, Tuple[int, int, int, bytes]]
-Places = Union[Tuple[bytes, bytes], Tuple[int, int, int, bytes, bytes]]
-UnreadPlace = Union[Tuple[()], Tuple[int, int], Failure]
-XmpPlace = Union[Tuple[()], Tuple[int, int], Failure]
 
 
 class Status(enum.IntEnum):
@@ -446,7 +446,9 @@ def places() -> Iterator[str]:
         yield named
         return
     yield os.path.join(os.path.dirname(os.path.abspath(__file__)), NAME)
-    compiled = importlib.util.find_spec("exifnorm._in_c")
+    from importlib.util import find_spec  # which those need that have no library beside the modules
+
+    compiled = find_spec("exifnorm._in_c")
     if compiled and compiled.origin:
         yield compiled.origin
     yield NAME

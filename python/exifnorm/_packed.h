@@ -1329,6 +1329,7 @@ static int read_usual(const struct calls *calls, PyObject *without, struct head 
 /* ---- the record of a usual JPEG */
 
 #define FIRST_BYTES 65536 /* of a file that are read at once: the head of nearly every picture */
+#define LAST_BYTES 65536  /* of a long one by which its end is known, as jpeg_tail.py has it */
 #define MARKS 5           /* of a file */
 
 /* A file: its number, or -1 if it isn't open, and its first bytes. */
@@ -1381,6 +1382,21 @@ static int open_file(struct file *file)
     return file->first != NULL && pread(file->number, file->first, file->length, 0) == (ssize_t)file->length ? MADE : LEFT;
 }
 
+/* Whether the last bytes of a long file, which begin after its head, are picture data and the end mark. */
+static int has_scan_at_end(const struct file *file, size_t after, size_t size)
+{
+    struct bytes last = {NULL, LAST_BYTES + 1}; /* with the one before them */
+    unsigned char *read = size > after && size - after > LAST_BYTES ? malloc(last.length) : NULL;
+    int is_there = 0;
+
+    if (read != NULL && pread(file->number, read, last.length, (off_t)(size - last.length)) == (ssize_t)last.length) {
+        last.start = read;
+        is_there = is_scan(&last, read[0] != 0xFF, last.length);
+    }
+    free(read);
+    return is_there;
+}
+
 static int is_as_before(const struct file *file)
 {
     struct stat now;
@@ -1399,6 +1415,14 @@ static int open_file(struct file *file)
 {
     (void)file;
     return LEFT;
+}
+
+static int has_scan_at_end(const struct file *file, size_t after, size_t size)
+{
+    (void)file;
+    (void)after;
+    (void)size;
+    return 0;
 }
 
 static int is_as_before(const struct file *file)
@@ -1599,7 +1623,8 @@ static int check_end(const struct usual *usual, const struct file *file, const s
     int is_there;
 
     if (!is_scan(&head->bytes, head->after, size)) {
-        answer = PyObject_CallFunction(usual->is_end, "inn", file->number, (Py_ssize_t)head->after, (Py_ssize_t)size);
+        answer = PyObject_CallFunction(usual->is_end, "inni", file->number, (Py_ssize_t)head->after, (Py_ssize_t)size,
+                                       has_scan_at_end(file, head->after, size));
         is_there = answer == NULL ? -1 : PyObject_IsTrue(answer);
         Py_XDECREF(answer);
         if (is_there <= 0) {

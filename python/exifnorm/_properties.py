@@ -4,8 +4,9 @@ from __future__ import annotations
 
 import functools
 import re
-from typing import Any, Callable, List, NamedTuple, Tuple, Union
+from typing import Any, Callable, List, Tuple, Union
 
+from ._named import NamedTuple
 from ._words import documented
 
 

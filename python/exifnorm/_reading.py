@@ -4,9 +4,9 @@ from __future__ import annotations
 
 from typing import List
 
-from ._calls import Octets, normal, show
+from ._calls import normal, show
 from ._errors import NormalTooLong
-from ._fields import BlockField
+from ._fields import BlockField, Octets
 from ._forms import fields_of_form
 from ._listings import fields_of_listing
 

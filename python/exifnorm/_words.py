@@ -3,9 +3,12 @@
 from __future__ import annotations
 
 import warnings
-from typing import Literal, Tuple, Type, TypeVar, cast
 
-T = TypeVar("T")
+TYPE_CHECKING = False  # that of `typing`, which takes long to import
+if TYPE_CHECKING:
+    from typing import Literal, Tuple, Type, TypeVar
+
+    T = TypeVar("T")
 
 
 class Word(str):
@@ -59,5 +62,5 @@ def documented(of: Type[T]) -> Type[T]:
 
 
 EXIF: Literal["exif"] = "exif"
-IPTC = cast(Literal["iptc"], Word("iptc", "iim"))  # the kind of a block
-DATASETS = cast(Literal["iptc"], Word("iptc", "record"))  # the directory of a DataSet
+IPTC: Literal["iptc"] = Word("iptc", "iim")  # type: ignore[assignment]  # the kind of a block
+DATASETS: Literal["iptc"] = Word("iptc", "record")  # type: ignore[assignment]  # the directory of a DataSet

@@ -4,8 +4,9 @@ from __future__ import annotations
 
 from typing import List
 
-from ._calls import Octets, _copied
+from ._calls import _copied
 from ._errors import XmpRefused
+from ._fields import Octets
 from ._library import Status, library
 from ._properties import PROPERTIES, XmpProperty, made_of_form
 

@@ -11,10 +11,10 @@ from ._late import late
 
 TYPE_CHECKING = False  # that of `typing`, which takes long to import
 if TYPE_CHECKING:
-    from ._calls import Octets, digest, embeddable, kind, normal, same, show, version
+    from ._calls import digest, embeddable, kind, normal, same, show, version
     from ._captions import BlockCaption, captions
     from ._errors import LIMIT, HeadRefused, LibraryMissing, NormalTooLong, PictureRefused, Refused, TooMany, XmpNotRead, XmpRefused
-    from ._fields import BlockField, Ratio, Values
+    from ._fields import BlockField, Octets, Ratio, Values
     from ._jpeg import (
         JpegBlock,
         JpegPart,
@@ -81,7 +81,7 @@ __all__ = [
     "xmp_properties",
 ]
 
-_MODULES = "_errors _fields _library _calls _reading _captions _jpeg _properties _xmp".split()  # each after those whose names it takes
+_MODULES = "_errors _library _calls _fields _jpeg _reading _captions _properties _xmp".split()  # each after those whose names it takes
 
 if not TYPE_CHECKING:  # a type checker would take any name for one of these
 
