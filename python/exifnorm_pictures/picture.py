@@ -6,8 +6,9 @@ from __future__ import annotations
 import os
 import warnings
 from functools import cached_property, partial
-from typing import TYPE_CHECKING, Any, Callable, Container, Iterable, Iterator, Mapping, NamedTuple, Sequence, Type, TypeVar, overload
+from typing import TYPE_CHECKING, Any, Callable, Container, Iterable, Iterator, Mapping, Sequence, Type, TypeVar, overload
 
+from exifnorm._named import NamedTuple
 from exifnorm._words import documented
 
 from .comparison.origin import Origin

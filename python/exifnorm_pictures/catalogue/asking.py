@@ -41,8 +41,7 @@ from ..model.columns import Damaged
 from ..model.found import EXIF, IPTC, XMP
 from ..model.numbers import Numbers
 from ..model.problems import NOT_THERE, Problem
-from ..model.texts import unescaped
-from ..model.words import Word
+from ..model.texts import Word, unescaped
 from .kept_texts import DATE as FIELD_DATE, NUMBER, OTHER, SHOWN, Report, add_fields, make_ready, say_nothing
 from .store import HEAD, NOT_WHOLE, Catalogue, root_of_row
 
@@ -61,27 +60,26 @@ _SHARE = 20  # of all pictures, from which on it costs less to go through the pa
 class Unread(Word):
     """What makes it unknown whether a picture has a text."""
 
-    PICTURE = ("picture",)  # nobody has read its picture, or none of its format is read, so that nobody knows whether it is damaged
-    PARTS = ("parts",)  # a part of the file was not read, or it has texts that aren't kept
-    EXIF = (EXIF,)  # its block of Exif, which may have such a text, was refused
-    IPTC = (IPTC,)
-    XMP = (XMP,)
-    POSITION = ("position",)  # it has a latitude and a longitude that make no position, and that other programs may show
-    MAKER_NOTE = ("MakerNote",)  # of which ExifTool wasn't asked, and which may have a serial number or an owner
+    queries: tuple[str, ...]  # for the numbers of such pictures
 
-
-_UNREAD = {
-    Unread.PICTURE: ("SELECT id FROM pictures WHERE damage = '' AND ifnull(coded_picture, '') = ''",),
-    Unread.PARTS: (
-        f"SELECT id FROM pictures WHERE ({NOT_WHOLE}) AND (problem IS NOT NULL OR other_not_read IS NOT '')",
-        "SELECT picture FROM texts WHERE label = ''",
-    ),
-    Unread.EXIF: (f"SELECT id FROM pictures WHERE ({NOT_WHOLE}) AND exif IS NULL AND exif_repaired IS NULL",),
-    Unread.IPTC: (f"SELECT id FROM pictures WHERE ({NOT_WHOLE}) AND iptc IS NULL",),
-    Unread.XMP: (f"SELECT id FROM pictures WHERE ({NOT_WHOLE}) AND xmp IS NULL",),
-    Unread.POSITION: (f"SELECT picture FROM texts WHERE label = '{UNCLEAR_POSITION}'",),
-    Unread.MAKER_NOTE: ("SELECT id FROM pictures WHERE maker_notes != '' AND id NOT IN (SELECT picture FROM maker_notes)",),
-}
+    # nobody has read its picture, or none of its format is read, so that nobody knows whether it is damaged
+    PICTURE = ("picture", ("SELECT id FROM pictures WHERE damage = '' AND ifnull(coded_picture, '') = ''",))
+    # a part of the file was not read, or it has texts that aren't kept
+    PARTS = (
+        "parts",
+        (
+            f"SELECT id FROM pictures WHERE ({NOT_WHOLE}) AND (problem IS NOT NULL OR other_not_read IS NOT '')",
+            "SELECT picture FROM texts WHERE label = ''",
+        ),
+    )
+    # its block of Exif, which may have such a text, was refused
+    EXIF = (EXIF, (f"SELECT id FROM pictures WHERE ({NOT_WHOLE}) AND exif IS NULL AND exif_repaired IS NULL",))
+    IPTC = (IPTC, (f"SELECT id FROM pictures WHERE ({NOT_WHOLE}) AND iptc IS NULL",))
+    XMP = (XMP, (f"SELECT id FROM pictures WHERE ({NOT_WHOLE}) AND xmp IS NULL",))
+    # it has a latitude and a longitude that make no position, and that other programs may show
+    POSITION = ("position", (f"SELECT picture FROM texts WHERE label = '{UNCLEAR_POSITION}'",))
+    # of which ExifTool wasn't asked, and which may have a serial number or an owner
+    MAKER_NOTE = ("MakerNote", ("SELECT id FROM pictures WHERE maker_notes != '' AND id NOT IN (SELECT picture FROM maker_notes)",))
 
 
 def _reasons(labels: Sequence[str]) -> list[Unread]:
@@ -95,7 +93,7 @@ def _reasons(labels: Sequence[str]) -> list[Unread]:
 
 def unread(labels: Sequence[str]) -> str:
     """The pictures of which it isn't known whether they have a text of some labels, in SQL."""
-    return f"p.id IN ({' UNION ALL '.join(query for reason in _reasons(labels) for query in _UNREAD[reason])})"
+    return f"p.id IN ({' UNION ALL '.join(query for reason in _reasons(labels) for query in reason.queries)})"
 
 
 class Part(NamedTuple):
@@ -143,7 +141,7 @@ class _Finder:
     def unread_by(self, reason: Unread) -> Numbers:
         """The pictures of which it isn't known by one reason."""
         if reason not in self._unread:
-            self._unread[reason] = functools.reduce(or_, map(self._catalogue.numbers, _UNREAD[reason]))
+            self._unread[reason] = functools.reduce(or_, map(self._catalogue.numbers, reason.queries))
         return self._unread[reason]
 
     def _with_texts(self, question: Condition) -> Numbers:
@@ -165,8 +163,9 @@ class _Finder:
         known = put_wanted(self._catalogue, [question.value, *question.others]) if question.comparison == "is" else 0
         for table in self._catalogue.all_texts:
             for label in forms_of_word(question.label):
-                if question.comparison in _TESTS:
-                    test, value = _test_of(question)
+                if question.comparison in ("has", "like"):
+                    value, is_pattern = folded(question.value), question.comparison == "like"
+                    test, value = ("{} GLOB ?2", pattern_of(value)) if is_pattern else ("instr({}, ?2)", value)
                     numbers |= self._short(table, label, test.format("head"), value)
                     parts = [Part(f"long = 1 AND {test.format(_WHOLE)}", (value,))]
                 else:
@@ -196,14 +195,6 @@ _DIFFERENT = """WITH RECURSIVE heads (head) AS (
     UNION ALL
     SELECT (SELECT min(head) FROM {table} WHERE label = ?1 AND long = 0 AND head > heads.head) FROM heads WHERE head IS NOT NULL
 ) SELECT head, {test} FROM heads WHERE head IS NOT NULL"""
-# Tests of whole texts
-_TESTS = {"has": "instr({}, ?2)", "like": "{} GLOB ?2"}
-
-
-def _test_of(question: Condition) -> tuple[str, str]:
-    """A test of a text in SQL, and its value."""
-    value = folded(question.value)
-    return _TESTS[question.comparison], pattern_of(value) if question.comparison == "like" else value
 
 
 def pattern_of(text: str) -> str:
@@ -423,9 +414,8 @@ class Answer:
         make_ready(catalogue, report)
         add_functions(catalogue)
         self._catalogue, self._in_words = catalogue, in_words
-        fields = fields_in([*(labels_of(question) if question else []), *shown])
-        self.places = add_fields(catalogue, fields, report)
         self.labels = labels_of(question) if question else []  # that are asked for
+        self.places = add_fields(catalogue, fields_in([*self.labels, *shown]), report)
         self._finder = _Finder(catalogue)
         self._total = catalogue.count()
         self._scope = ~catalogue.numbers(_LEFT_OUT)

@@ -16,7 +16,6 @@ from ..fields.rules import AFTER, AGREE, BEFORE, EQUAL, LENGTH, LIKE, NEEDS, NEV
 from ..model.records import has, has_short
 from ..model.texts import Members, pictures_in_words, whole_path
 from .asking import IN_SCOPE, add_functions, forms_of_word, has_text, parts_of, pattern_of, put_wanted, unread
-from .conflicts import conflicts
 from .kept_texts import DATE as FIELD_DATE, EACH, SHOWN, Report, add_fields, ambiguous_in, make_ready, say_nothing
 from .store import Catalogue, root_of_row
 from .texts import texts_of
@@ -41,8 +40,7 @@ class Checked:
     def __init__(self, catalogue: Catalogue, rules: Sequence[Rule], report: Report = say_nothing, only: str | None = None) -> None:
         """`only`: a table of the paths of the pictures that are checked."""
         make_ready(catalogue, report)
-        fields = fields_in(label for rule in rules for label in rule.labels)
-        self._places = add_fields(catalogue, fields, report)
+        self._places = add_fields(catalogue, fields_in(label for rule in rules for label in rule.labels), report)
         self._catalogue = catalogue
         self.rules = rules
         self._scope = f"{IN_SCOPE} AND p.path IN {only}" if only else IN_SCOPE
@@ -71,8 +69,8 @@ class Checked:
             below = _below(picture.path, picture.root)
             about = [(number, rule.labels) for number, rule in rules if rule.is_about(below)]
             texts = texts_of(self._catalogue.blocks_with_fields(picture))
-            for one in conflicts(texts.texts, texts.located):
-                if one.is_real and one.label not in texts.missing:
+            for one in texts.conflicts():
+                if one.is_real:
                     yield from ((picture.path, one.line, number, one.label) for number, labels in about if one.label in labels)
 
     def _rows(self, rule: Rule, label: str) -> Iterator[tuple[bytes, str | None]]:

@@ -14,8 +14,7 @@ from exifnorm._words import documented
 from ..fields.labels import DATE, LABELS, POSITION, Caption, Label
 from ..fields.places import Located, is_same_place, metres_apart
 from ..model.found import EXIF, IPTC, NAMES, STANDARDS, XMP
-from ..model.texts import grouped
-from ..model.words import Word
+from ..model.texts import Word, grouped
 
 
 class ConflictKind(Word):
@@ -111,12 +110,19 @@ def _of_positions(exif: Located | None, xmp: Located | None) -> Iterator[Conflic
 
 
 def _conflict(label: Label, ours: Sequence[Caption]) -> Conflict:
+    shown = tuple(sorted(ours, key=lambda it: STANDARDS.index(it.standard)))
+    if _are_same(ours):  # as nearly all
+        return Conflict(label.word, ConflictKind.ALIKE, "", shown)
     hows = list(_hows(label, ours))
     kind = max((it.kind for it in hows), key=_ORDER.index, default=ConflictKind.ALIKE)
     details = dict.fromkeys(it.detail for it in hows if it.detail and (it.kind == kind or kind != ConflictKind.DIFFERENT))
     worse = tuple(it.worse for it in hows if it.worse)
-    shown = sorted(ours, key=lambda it: STANDARDS.index(it.standard))
-    return Conflict(label.word, kind, "; ".join(details), tuple(shown), worse)
+    return Conflict(label.word, kind, "; ".join(details), shown, worse)
+
+
+def _are_same(ours: Sequence[Caption]) -> bool:
+    """Whether nothing is to be said of some texts: all are the same, and none is empty, a camera's own or in a set that nothing declares."""
+    return len({it.texts for it in ours}) == 1 and not any([it.guess or it.is_own or it.is_empty for it in ours])
 
 
 def _hows(label: Label, ours: Sequence[Caption]) -> Iterator[_How]:

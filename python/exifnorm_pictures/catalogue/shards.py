@@ -12,7 +12,9 @@ import io
 import itertools
 import os
 import tempfile
-from typing import Callable, Container, Iterator, NamedTuple, Sequence
+from typing import Callable, Container, Iterator, Sequence
+
+from exifnorm._named import NamedTuple
 
 from ..files import atomic
 from ..model.errors import Failure, WrongUse

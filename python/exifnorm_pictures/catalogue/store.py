@@ -17,11 +17,13 @@ import stat
 import time
 from itertools import chain, groupby
 from operator import itemgetter
-from typing import Any, Callable, Iterable, Iterator, NamedTuple, Optional, Sequence, Type, TypeVar, overload
+from typing import Any, Callable, Iterable, Iterator, Optional, Sequence, Type, TypeVar, overload
+
+from exifnorm._named import NamedTuple
 
 from ..fields.packing import fields_of, joined, parted, with_kept_fields
 from ..fields.field import Field
-from ..files import mounts, opening as files, signals
+from ..files import opening as files, signals
 from ..model.budgets import ROW_BYTES, ROW_NUMBER, SQL_STEPS
 from ..model.found import NAMES, OWN, NotRead
 from ..model.records import (
@@ -488,7 +490,7 @@ class Catalogue:
                 self.base.execute(statement)
         check_schema(self.base, self.name)
         self.base.execute("COMMIT")
-        self._set_journal("DELETE" if mounts.is_on_network(self.name) else "WAL", wait)
+        self._set_journal("DELETE" if is_on_network(self.name) else "WAL", wait)
         self.base.execute("PRAGMA synchronous = FULL")
         self.base.execute(f"PRAGMA cache_size = -{CACHE}")
 
@@ -614,18 +616,15 @@ class Catalogue:
         with contextlib.ExitStack() as attached:
             names = [attached.enter_context(self.attached(name, f"batch{number}")) for number, name in enumerate(files)]
             with self.transaction():
-                has_earlier = self._has_earlier(run)
+                others = self.base.execute("SELECT 1 FROM runs WHERE id != ? LIMIT 1", (run,))  # in a first run none is looked for
+                has_earlier = others.fetchone() is not None and not self.is_empty()
                 earlier = [row for other in names if has_earlier for row in self._unchanged(other)]
                 for other in names:
                     self.add_rows(other, run)
                 new = [it for it in {it.path: it for it in entries}.values() if not self._is_kept(run, it)]
-                earlier += filter(None, map(self._earlier, new if has_earlier else ()))
+                earlier += filter(None, map(self._earlier, new * has_earlier))
                 put_rows(self.base, run, 1 + self.last_number(), new)
                 self.base.executemany("UPDATE main.pictures SET run = ? WHERE path = ?", earlier)
-
-    def _has_earlier(self, run: int) -> bool:
-        """Whether a picture of another run may be known. In a first run none is looked for."""
-        return self.base.execute("SELECT 1 FROM runs WHERE id != ? LIMIT 1", (run,)).fetchone() is not None and not self.is_empty()
 
     def _unchanged(self, other: str) -> "list[tuple[int, bytes]]":
         """The pictures of an attached file that are as they were, as after `index --again`: each with the run in which it was new or changed."""
@@ -805,9 +804,9 @@ class Catalogue:
         with self.guarded():
             return [(block, fields_of(block)) for block in self.blocks_of(picture)]
 
-    def packed_fields(self, columns: str) -> Iterator[tuple[int, list[tuple[Any, ...]]]]:
+    def packed_fields(self, columns: str, where: str = "") -> Iterator[tuple[int, list[tuple[Any, ...]]]]:
         """Each picture's number, and for each of its blocks some columns and its packed fields."""
-        rows = self.rows(f"SELECT picture, {columns}, fields FROM blocks ORDER BY picture, number")
+        rows = self.rows(f"SELECT picture, {columns}, fields FROM blocks{where} ORDER BY picture, number")
         for picture, ours in groupby(rows, key=itemgetter(0)):
             blocks = list(ours)
             with self.guarded():
@@ -934,3 +933,25 @@ def _run_of_row(row: Run) -> Run:
 
 def _known(row: tuple[Any, ...]) -> Known:
     return Known(row[0], None if row[1] is None else Stamp._make(row[1:6]), *row[6:])
+
+
+# Files on network shares, where SQLite's write-ahead log doesn't work: it needs memory that all its readers share
+
+MOUNTS = "/proc/self/mountinfo"
+# By the kernel's names: file systems of other machines, and folders of the machine that a virtual one runs on
+_SHARED = frozenset("9p afs ceph cifs coda glusterfs lustre ncpfs nfs nfs4 prl_fs smb3 smbfs vboxsf virtiofs".split())
+
+
+def is_on_network(path: str) -> bool:
+    """Whether a file, or one that will be made there, is on a share. All that goes through FUSE counts, as sshfs and rclone do, because
+    Linux doesn't know what is behind it. Where there is no list of mounts, nothing is known to be a share."""
+    try:
+        device = os.stat(os.path.dirname(os.path.realpath(path))).st_dev
+        with open(MOUNTS, encoding="utf-8", errors="surrogateescape") as file:
+            lines = file.readlines()
+    except OSError:
+        return False
+    number = f"{os.major(device)}:{os.minor(device)}"
+    # proc(5): the third word is the number of the device; the type of the file system is the word after the lone hyphen
+    kinds = (line.partition(" - ")[2].split(" ")[0] for line in lines if line.split(" ")[2:3] == [number])
+    return any(it in _SHARED or it.startswith("fuse.") for it in kinds)

@@ -12,6 +12,7 @@ from ..fields.listing import rest_of
 from ..fields.places import Located, located, of_position
 from ..model.found import EXIF, IPTC, NAMES, STANDARDS, XMP
 from ..model.records import BlockRecord
+from .conflicts import Conflict, conflicts
 
 
 class PictureTexts(NamedTuple):
@@ -28,15 +29,20 @@ class PictureTexts(NamedTuple):
         """The labels of which a text isn't kept, or may not be."""
         return self.long | self.behind
 
+    def conflicts(self) -> list[Conflict]:
+        """How the texts differ between the standards, in the labels of which all are kept."""
+        return [it for it in conflicts(self.texts, self.located) if not it.is_alike and it.label not in self.missing]
+
 
 _BlockTexts = tuple[list[Caption], set[str]]  # the texts of a block, and the labels of those that are too long
 
 
 def _texts_of_block(fields: list[Field], blocks: Sequence[tuple[BlockRecord, list[Field]]]) -> _BlockTexts:
     labelled = [it for it in fields if (it.directory, it.tag) in LABELLED]
-    labelled = in_found_set(labelled, (it for _, it in blocks))
-    left = not_kept(labelled) if labelled else set()
-    return [it for it in of_labelled(labelled) if it.label not in left] if labelled else [], left
+    if not labelled:
+        return [], set()
+    left = not_kept(labelled)
+    return [it for it in of_labelled(in_found_set(labelled, (it for _, it in blocks))) if it.label not in left], left
 
 
 _DIRECTORIES = {EXIF: ("main", "exif"), IPTC: ("iptc",), XMP: ("xmp",)}
@@ -52,7 +58,7 @@ def texts_of(blocks: Sequence[tuple[BlockRecord, list[Field]]], wanted: Sequence
     for block, fields in blocks:
         if id(fields) not in known:
             known[id(fields)] = _texts_of_block(fields, blocks)
-            camera = camera if any(camera) else camera_of(fields)
+            camera = camera if any(camera) or block.kind != EXIF else camera_of(fields)
         captions, left = known[id(fields)]
         if captions or left:
             part = "" if block.name == NAMES[block.kind] else block.name

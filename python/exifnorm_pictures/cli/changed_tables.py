@@ -7,7 +7,7 @@ from collections import Counter
 from itertools import chain, islice
 from typing import Iterable, Iterator, NamedTuple, Sequence
 
-from ..comparison.changed.edit_groups import KINDS, Counted, Group
+from ..comparison.changed.edit_groups import Group
 from ..comparison.changed.edits import BRACKETS, Edit, edit_of, head_of, line_of, steps_of
 from ..comparison.changed.states import Compared
 from ..comparison.changed.summary import (
@@ -30,11 +30,11 @@ from ..fields.listing import MAKER_NOTE
 from ..fields.names import exact_key, group_name
 from ..fields.typed import together
 from ..judge.maker_notes import NoteDifference
-from ..model.texts import Members, Result, escaped, path_members, path_or_none, pictures_in_words, safe, shown_path
+from ..model.texts import Members, Result, escaped, in_words, path_members, path_or_none, pictures_in_words, safe, shown_path
 from .looking import opened
-from .exit_codes import SUCCESS, UNKNOWN, status_of_results
+from .exit_codes import SUCCESS, UNKNOWN
 from .options import Output, Run
-from .output import Table, local_time, print_lines, print_object, width
+from .output import Table, local_time, print_lines, print_object, status_of_results, width
 
 # The page of `changed`: groups of pictures that were edited alike, and those that changed like no
 # other, on about 30 lines.
@@ -74,16 +74,10 @@ def lines(
     yield from [""] * bool(alike)
     yield from chain(*texts[:shown])
     yield from _smaller(alike[shown:])
-    yield from _further(summary.kinds.further)
+    yield from summary.kinds.notes()
     yield from _odd(pictures[:many], len(odd))
     yield from ["", *results] if results else []
     yield from _hint(counts, bool(alike), by_stem)
-
-
-def _further(count: int) -> Iterator[str]:
-    if count:
-        many = pictures_in_words(count)
-        yield f"More than {KINDS:,} kinds of edit: {many} more, which aren't grouped"
 
 
 def _odd(texts: Sequence[list[str]], count: int) -> Iterator[str]:
@@ -125,7 +119,7 @@ def _picture(group: Group, style: Style) -> Iterator[str]:
     for edit in edits[:EDITS]:
         yield from _edit(f"    {head_of(edit)}", edit, True, style)
     if len(edits) > EDITS:
-        yield f"    and {len(edits) - EDITS:,} more edits"
+        yield f"    and {in_words(len(edits) - EDITS, 'more edit')}"
 
 
 def _group(group: Group, style: Style) -> Iterator[str]:
@@ -134,7 +128,7 @@ def _group(group: Group, style: Style) -> Iterator[str]:
         yield from _edit(head + head_of(edit, places, group.pictures), edit, False, style)
         head = " " * len(head)
     if len(group.edits) > EDITS:
-        yield f"{head}and {len(group.edits) - EDITS:,} more edits"
+        yield f"{head}and {in_words(len(group.edits) - EDITS, 'more edit')}"
     names = list(islice(fitting(map(shown_name, group.names), LONGEST_NAMES), MOST_NAMES))
     yield f"  {', '.join(names)}{' ..' * (len(names) < group.pictures)}"
     yield from (f"  {it.line}" for it in lacking_of(group))
@@ -195,8 +189,7 @@ def print_table(table: Table, comparisons: Comparisons, choice: Choice) -> None:
     summary = Summary(choice, 1)
     for comparison in comparisons:
         about = (comparison.name, comparison.result, comparison.moved_to)
-        number = summary.add(comparison) or None
-        beside = (comparison.partner, number)
+        beside = (comparison.partner, summary.add(comparison) or None)
         coded = comparison.picture
         for change in comparison.changes:
             values = (*plain_sides(change), *map(exact_side, (change.before, change.after)))
@@ -222,8 +215,7 @@ def print_objects(
     """An object for each picture, and one for all with the groups of those edited alike."""
     summary = Summary(choice, 1)
     for comparison in comparisons:
-        edit = summary.add(comparison) or None
-        print_object("changed", "picture", {**_members(comparison), "edit": edit})
+        print_object("changed", "picture", {**_members(comparison), "edit": summary.add(comparison) or None})
     known: Members = {
         "counts": dict(counts),
         "left_out": dict(choice.left_out),
@@ -236,20 +228,17 @@ def print_objects(
 
 
 def _group_members(group: Group) -> Members:
-    edits = [_edit_members(it) for it in group.counted]
-    first = path_members(group.names[0])
-    return {"pictures": group.pictures, "first": first, "edit": group.kinds, "edits": edits}
-
-
-def _edit_members(counted: Counted) -> Members:
-    edit = counted.edit
-    return {
-        "name": edit.name,
-        "fields": edit.fields,
-        "note": edit.note or None,
-        "words": [{"sign": it.sign, "text": it.text} for it in edit.core],
-        "lacking": {it: few.pictures for it, few in counted.odd().items()},
-    }
+    edits = [
+        {
+            "name": it.edit.name,
+            "fields": it.edit.fields,
+            "note": it.edit.note or None,
+            "words": [step._asdict() for step in it.edit.core],
+            "lacking": {name: few.pictures for name, few in it.odd().items()},
+        }
+        for it in group.counted
+    ]
+    return {"pictures": group.pictures, "first": path_members(group.names[0]), "edit": group.kinds, "edits": edits}
 
 
 def _members(comparison: Compared) -> Members:
@@ -333,8 +322,7 @@ _ELSEWHERE = "its name isn't there. Whether it has another name, and was edited 
 
 def _result(comparison: Compared, path: bytes) -> str:
     to = f" to {shown_path(path)}" if comparison.moved_to is not None else ""
-    note = f" ({comparison.note})" if comparison.note else ""
-    return comparison.result + to + note
+    return comparison.result + to + f" ({comparison.note})" * bool(comparison.note)
 
 
 def _state_members(state: State) -> Members:

@@ -2,9 +2,8 @@
 
 from __future__ import annotations
 
-from typing import Iterable, Iterator, Sequence
+from typing import TYPE_CHECKING, Iterable, Iterator, Sequence
 
-from ..catalogue.store import Catalogue
 from ..fields.choosing import Choice, UnknownField, hint
 from ..fields.field import Field
 from ..fields.packing import unpacked
@@ -12,6 +11,9 @@ from ..model.found import other_name
 from ..model.texts import escaped, reason
 from .options import Fields
 from .names import text_of, words_in
+
+if TYPE_CHECKING:
+    from ..catalogue.store import Catalogue
 
 
 def choice_of(fields: Fields) -> Choice:

@@ -10,7 +10,8 @@ words isn't in the help of its command: `help options` has it.
 from __future__ import annotations
 
 import re
-from typing import NamedTuple
+
+from exifnorm._named import NamedTuple
 
 PIXELS, FILE = "pixels", "file"  # the kinds of groups with the same coded picture, and with the same bytes
 

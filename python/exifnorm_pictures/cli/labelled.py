@@ -19,7 +19,7 @@ from ..model.problems import NOT_THERE, Problem
 from ..model.texts import Members, escaped, shown_path
 from ..picture import Picture
 from ..scan.walk import Unlisted, below
-from .names import each_name, is_catalogue, is_list, is_ours
+from .names import each_name, is_catalogue, is_list
 from .exit_codes import SUCCESS, UNKNOWN
 from .options import Files, Output, Run
 from .output import (
@@ -53,7 +53,10 @@ def pictures(files: Files, run: Run) -> Iterator[Picture]:
 
 
 def _named(command: str, run: Run, name: bytes) -> Iterator[Picture]:
-    if is_catalogue(os.fsdecode(name)) and (os.path.isdir(name) or is_ours(name)):
+    from ..catalogue.store import head_is_ours, head_of
+
+    shown = os.fsdecode(name)
+    if is_catalogue(shown) and (os.path.isdir(name) or head_is_ours(head_of(shown)[0])):
         yield from _in_catalogue(command, run, name)
     elif os.path.isdir(name):
         yield from _in_folder(run, name)

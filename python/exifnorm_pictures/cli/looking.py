@@ -14,7 +14,7 @@ from ..extract import programs
 from ..model.errors import WrongUse
 from ..model.problems import Problem
 from ..model.texts import shown_path
-from ..scan.batches import How, Lines
+from ..scan.walk import How, Lines
 from ..scan.index import OF_XMP, IndexOptions, index, number_of
 from ..scan.progress import Progress
 from .exit_codes import UNKNOWN

@@ -6,27 +6,27 @@ from . import search_path
 
 search_path.leave_out_current_folder()  # before other modules are imported
 
-import argparse
-import ctypes
 import gc
 import importlib
 import os
 import sys
-from types import ModuleType
-from typing import Sequence
 
 from ..files import signals
 from ..files.session import Session
 from ..model import errors
 from ..model.budgets import OWN_PAGES, PROGRAM_SECONDS
-from ..model.texts import described, reason, shown_path
-from .exit_codes import FAILURE, STOPPED, USAGE
-from .options import Least
-from .parser import parsed
+from .exit_codes import FAILURE, STOPPED, SUCCESS, USAGE
+
+TYPE_CHECKING = False  # that of `typing`, which takes long to import
+if TYPE_CHECKING:
+    import argparse
+    from types import ModuleType
+    from typing import Sequence
 
 COLLECTED = 50_000  # objects after which Python looks for rings of objects: what a picture needs makes none, so mostly it looks in vain
 
 _TRIM_THRESHOLD, _MMAP_THRESHOLD = -1, -3  # of glibc's mallopt
+_VERSION = ["--version"[:length] for length in range(3, 10)]  # and its abbreviations
 _OF_POSIX = ("fcntl", "resource")  # modules of Python that Windows hasn't
 _OTHERS = (("exifnorm", "LibraryMissing"), ("sqlite3", "OperationalError"))  # errors of other packages whose texts are for people
 
@@ -53,7 +53,7 @@ def _heeding(words: Sequence[str] | None) -> int:
         signals.ready_streams()
         signals.heed_signals()
         _give_memory_back()
-        status = _run(words)
+        status = _run(sys.argv[1:] if words is None else words)
         sys.stdout.flush()
         return status
     except signals.ClosedOutput as error:
@@ -65,18 +65,30 @@ def _heeding(words: Sequence[str] | None) -> int:
 def _give_memory_back() -> None:
     """From now on the system has the memory of a long value back as soon as that is freed. By itself glibc does so up to the first one: then it
     raises the length of those that get pages of their own to that one's, and keeps what is freed between others."""
+    import ctypes
+
     mallopt = getattr(ctypes.CDLL(None), "mallopt", None) if hasattr(os, "fork") else None
     if mallopt:  # not in other C libraries
         mallopt(_MMAP_THRESHOLD, OWN_PAGES)
         mallopt(_TRIM_THRESHOLD, 2 * OWN_PAGES)
 
 
-def _run(words: Sequence[str] | None) -> int:
+def _run(words: Sequence[str]) -> int:
     """Runs a command in a session: its temporary files and programs end with it."""
     command, session, goes_on = "", Session(), False
     try:
-        given, least = parsed(words), Least()
-        arguments = argparse.Namespace(**vars(given), session=session, least=least)
+        if next(iter(words), None) in _VERSION:
+            from exifnorm import _calls  # `exifnorm.version` would import more
+
+            print(f"exifnorm-pictures {_calls.version()}")
+            return SUCCESS
+        import argparse  # which takes longer than to print the version, as the two modules do
+
+        from .options import Least
+        from .parser import parsed
+
+        least = Least()
+        arguments = argparse.Namespace(**vars(parsed(words)), session=session, least=least)
         session.debug = session.debug or arguments.debug
         session.seconds, session.programs = getattr(arguments, "limit", PROGRAM_SECONDS), not getattr(arguments, "no_programs", False)
         # importing the modules of all commands would take longer than most commands do
@@ -100,13 +112,22 @@ def _run(words: Sequence[str] | None) -> int:
 
 def _with_spreadsheet(module: ModuleType, arguments: argparse.Namespace) -> int:
     """Runs a command whose table goes to a file."""
+    import argparse
+
     from . import sheets
 
     with sheets.written(arguments.xlsx, arguments.session) as sheet:
         return int(module.run(argparse.Namespace(**{**vars(arguments), "csv": True, "sheet": sheet})))
 
 
+def _is_expected(error: Exception) -> bool:
+    """Whether an error is one of `_OTHERS`. It can't be if its package wasn't imported."""
+    return any(module in sys.modules and isinstance(error, getattr(sys.modules[module], name)) for module, name in _OTHERS)
+
+
 def _failed_by(error: Exception, debug: bool) -> int:
+    from ..model.texts import described, reason, shown_path
+
     if isinstance(error, errors.Failure):
         status = _failed(str(error), USAGE if isinstance(error, errors.WrongUse) else FAILURE)
         for line in error.lines:
@@ -125,11 +146,6 @@ def _failed_by(error: Exception, debug: bool) -> int:
     return _failed(f"{shown_path(error.filename)}: {reason(error)}")
 
 
-def _is_expected(error: Exception) -> bool:
-    """Whether an error is one of `_OTHERS`. It can't be if its package wasn't imported."""
-    return any(module in sys.modules and isinstance(error, getattr(sys.modules[module], name)) for module, name in _OTHERS)
-
-
 def _failed(text: str, status: int = FAILURE) -> int:
     signals.say(f"exifnorm-pictures: {text}")
     return status
@@ -137,5 +153,7 @@ def _failed(text: str, status: int = FAILURE) -> int:
 
 def _output_failed(error: OSError) -> int:
     """Standard output can't be written to. If its reader has gone, no message is printed."""
+    from ..model.texts import reason
+
     signals.drop(sys.stdout)
     return FAILURE if isinstance(error, BrokenPipeError) else _failed(f"standard output: {reason(error)}")

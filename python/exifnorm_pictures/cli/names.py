@@ -3,14 +3,11 @@
 from __future__ import annotations
 
 import os
-import shlex
 import sys
 from itertools import chain, islice
 from typing import TYPE_CHECKING, BinaryIO, Iterator, Sequence
 
-from ..fields.tokens import MOST_WORDS
 from ..files import opening
-from ..files.opening import reading
 from ..model.errors import WrongUse
 from ..model.texts import escaped, shown_path
 from ..scan.walk import BadList, names_in_list
@@ -79,21 +76,12 @@ def is_catalogue(name: str, decides: bool = False) -> bool:
 
         return shards.is_folder(name)
     try:
-        with reading(os.fsencode(name)) as file:
+        with opening.reading(os.fsencode(name)) as file:
             return file.read(16) == b"SQLite format 3\0"
     except OSError as error:
         if decides and os.path.lexists(name):
             raise OSError(error.errno, error.strerror, os.fsencode(name)) from None
         return False
-
-
-def is_ours(name: bytes) -> bool:
-    """Whether a file of SQLite is a catalogue, and not one of another program."""
-    from ..catalogue.store import head_is_ours  # which takes long to import
-
-    with reading(name) as file:
-        head = file.read(100)
-    return head_is_ours(head)
 
 
 def refuse_folders(*names: str) -> None:
@@ -126,34 +114,28 @@ def settle_first(files: Files) -> tuple[str, Files]:
         return files.catalogue, files
     if not files.names:
         refuse(files.command, f"give a catalogue: exifnorm-pictures {_line(files.command, files.names)}")
-    if not is_catalogue(files.names[0], decides=True):
-        why = _why(files.command, files.names[0])
+    name = files.names[0]
+    if not is_catalogue(name, decides=True):
+        what = "is a folder and" if os.path.isdir(name) else "is a file and" if os.path.lexists(name) else "isn't there, so it is"
+        option = ", or by --catalogue" * (files.command in _MAKERS)
+        why = f"{escaped(name)} {what} not a catalogue: give a catalogue as the first name{option}"
         raise WrongUse(f"{why}. Write: exifnorm-pictures {_line(files.command, files.names)}")
-    return files.names[0], files._replace(names=files.names[1:])
-
-
-def _why(command: str, name: str) -> str:
-    what = "is a folder and" if os.path.isdir(name) else "is a file and" if os.path.lexists(name) else "isn't there, so it is"
-    return (
-        f"{escaped(name)} {what} not a catalogue: give a catalogue as the first name{', or by --catalogue' if command in _MAKERS else ''}"
-    )
+    return name, files._replace(names=files.names[1:])
 
 
 def _line(command: str, names: Sequence[str]) -> str:
     """How a command is written whose first name is no catalogue, with the name that may be meant as one."""
+    import shlex
+
     makes = command in _MAKERS
     catalogues = [name for name in names if is_catalogue(name)]
-    meant = catalogues or (_absent(names) if makes else [])
+    # of several names one that nothing has may be meant as that of a new catalogue
+    meant = catalogues or [name for name in names if makes and len(names) > 1 and not os.path.lexists(name)]
     catalogue = meant[0] if len(meant) == 1 else "CATALOGUE"
     others = [escaped(shlex.quote(name)) for name in names if [name] != meant] or ["FOLDER"]
     catalogue = escaped(shlex.quote(catalogue))
     words = [*others, "--catalogue", catalogue] if makes and not catalogues else [catalogue, *others]
     return " ".join([command, *words])
-
-
-def _absent(names: Sequence[str]) -> list[str]:
-    """Those of several names that nothing has: one may be meant as that of a new catalogue."""
-    return [name for name in names if len(names) > 1 and not os.path.lexists(name)]
 
 
 # Files that somebody writes for rules and questions: the rules, and words.
@@ -174,6 +156,8 @@ def text_of(file: BinaryIO, name: str) -> str:
 
 def words_in(text: str, name: str) -> list[str]:
     """The words of a file, one each line; lines that begin with # are comments."""
+    from ..fields.tokens import MOST_WORDS  # which few runs need
+
     if text.count("\n") > MOST_WORDS:
         raise WrongUse(f"{escaped(name)} has more than {MOST_WORDS:,} lines")
     lines = (line.strip() for line in text.splitlines())

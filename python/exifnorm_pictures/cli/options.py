@@ -3,7 +3,9 @@
 from __future__ import annotations
 
 import argparse
-from typing import TYPE_CHECKING, NamedTuple, Sequence, TypeVar
+from typing import TYPE_CHECKING, Sequence, TypeVar
+
+from exifnorm._named import NamedTuple
 
 from ..files.session import Session
 from ..model.budgets import PROGRAM_SECONDS

@@ -11,7 +11,6 @@ import shutil
 import sys
 import unicodedata
 from collections import Counter
-from datetime import datetime, timezone
 from itertools import islice
 from typing import TYPE_CHECKING, Any, Iterable, Iterator, Sequence, Union
 
@@ -21,13 +20,20 @@ from ..model.found import CUT, NAMES, cut, damage, each_kind
 from ..model.records import AS_BEFORE, BlockRecord, PictureRecord
 from ..model.steps import loses, words
 from ..model.problems import COUNTED, Problem
-from ..model.texts import Members, near, path_members, safe, safe_lines, shown_path
+from ..model.texts import Members, Result, near, path_members, safe, safe_lines, shown_path
 from ..model.verdicts import with_verb
+from .exit_codes import DIFFERENCE, SUCCESS, UNKNOWN
 from .options import Output
 
 if TYPE_CHECKING:
     from ..picture import Picture
     from .sheets import Sheet
+
+
+def status_of_results(results: Iterable[Result]) -> int:
+    """The greatest status of some results."""
+    statuses = {UNKNOWN if it.is_open else DIFFERENCE if it.has_changed else SUCCESS for it in results}
+    return max(statuses, default=SUCCESS)
 
 
 # A table of three columns for people: names, and two values side by side.
@@ -48,9 +54,7 @@ def width(text: str) -> int:
 def _width_of(character: str) -> int:
     if unicodedata.combining(character):
         return 0
-    if unicodedata.east_asian_width(character) in "WF":
-        return 2
-    return 1
+    return 2 if unicodedata.east_asian_width(character) in "WF" else 1
 
 
 def columns(rows: Sequence[Sequence[str]], screen: int) -> Iterator[str]:
@@ -95,10 +99,10 @@ def wrapped(text: str, wanted: int) -> list[str]:
             line = joined
             continue
         lines += [line] if line else []
-        start, end = 0, _fitting(word, 0, wanted)
+        start, end = 0, fitting(word, 0, wanted)
         while end < len(word):
             lines.append(word[start:end])
-            start, end = end, _fitting(word, end, wanted)
+            start, end = end, fitting(word, end, wanted)
         line = word[start:]
     return [*lines, line]
 
@@ -127,7 +131,7 @@ def folded(text: str, screen: int) -> list[str]:
     return lines
 
 
-def _fitting(text: str, start: int, wanted: int) -> int:
+def fitting(text: str, start: int, wanted: int) -> int:
     """The end of the characters from `start` on that fit, at least one."""
     if text.isascii():
         return min(len(text), start + max(wanted, 1))
@@ -268,6 +272,8 @@ def local_time(when: str) -> str:
     >>> len(local_time("2026-03-31T12:00:00Z"))
     16
     """
+    from datetime import datetime, timezone  # which takes long to import
+
     try:
         moment = datetime.strptime(when, "%Y-%m-%dT%H:%M:%SZ").replace(tzinfo=timezone.utc)
         return moment.astimezone().strftime("%Y-%m-%d %H:%M")

@@ -5,7 +5,6 @@ from __future__ import annotations
 import argparse
 import itertools
 import re
-import shlex
 import sys
 from typing import IO, Any, Callable, Iterable, Iterator, NoReturn, Sequence
 
@@ -43,23 +42,13 @@ class _Parser(argparse.ArgumentParser):
             super()._print_message(message, file)
 
 
-class _Version(argparse.Action):
-    """Prints the version of this command and of the library, and ends."""
-
-    def __call__(self, whole: argparse.ArgumentParser, *_: object) -> None:
-        import exifnorm
-
-        print(f"exifnorm-pictures {exifnorm.version()}")
-        whole.exit()
-
-
-def parsed(words: Sequence[str] | None = None) -> argparse.Namespace:
+def parsed(words: Sequence[str]) -> argparse.Namespace:
     """The arguments of a command line; `help COMMAND` is `COMMAND --help`. Wrong ones end the process, after the usage of their command.
 
     >>> parsed(["show", "a.jpg", "--json", "b.jpg"]).names
     ['a.jpg', 'b.jpg']
     """
-    given = list(sys.argv[1:] if words is None else words)
+    given = list(words)
     if given[:1] == ["help"]:
         _print_topic(given[1:])
         given = [*given[1:3], "--help"]
@@ -111,6 +100,8 @@ def _refuse_upkeep(words: Sequence[str]) -> None:
 def _refuse_question(whole: _Parser, arguments: argparse.Namespace, others: Sequence[str]) -> None:
     """Refuses a question that has no option before it, and says how it is written."""
     if arguments.command == "list" and not any(it.startswith("-") for it in others):
+        import shlex
+
         words = shlex.join(["list", arguments.source, "--where", " ".join([*arguments.where, *others])])
         whole.exit(USAGE, f"exifnorm-pictures: a question follows --where: exifnorm-pictures {safe(words)}\n")
 
@@ -197,7 +188,7 @@ def parsers(only: str | None = None) -> "tuple[_Parser, dict[str, _Parser]]":
         epilog=f"Also: exifnorm-pictures help COMMAND, help fields, help questions, help rules\n{_MORE}",
         formatter_class=_Formatter,
     )
-    whole.add_argument("--version", action=_Version, nargs=0, help="the version")
+    whole.add_argument("--version", action="store_true", help="the version")  # which `main` prints
     commands = whole.add_subparsers(prog=whole.prog, dest="command", metavar="COMMAND", required=True, help=argparse.SUPPRESS)
     each: dict[str, _Parser] = {}
     for command in COMMANDS:

@@ -8,8 +8,7 @@ from typing import Sequence
 from ..model import rest
 from ..model.found import CUT, XMP_FILE
 from ..model.records import PictureRecord
-from ..model.texts import Result
-from ..model.words import Word
+from ..model.texts import Result, Word
 
 
 class Coded(Word):

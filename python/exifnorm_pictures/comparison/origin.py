@@ -4,14 +4,14 @@ from __future__ import annotations
 
 import contextlib
 import exifnorm
-from contextlib import closing
-from typing import Callable, NamedTuple, Optional, TYPE_CHECKING
+from typing import Callable, Optional, TYPE_CHECKING
+
+from exifnorm._named import NamedTuple
 
 from ..extract.formats.jpeg import START
 from ..extract.formats.jpeg_segments import read_head
 from ..extract.formats.streams import File, Parts, digest_of
 from ..files import opening
-from ..files.opening import opened
 from ..model.budgets import Budget, TooMuch
 from ..model.records import Stamp, is_marked_as
 from ..model.texts import Result
@@ -68,7 +68,7 @@ def head_of(picture: Parts) -> bytes | None:
 def head_of_file(path: bytes) -> bytes | None:
     """The same of a file; None if it can't be read."""
     try:
-        with closing(File(*opened(path), Budget())) as file:
+        with contextlib.closing(File(*opening.opened(path), Budget())) as file:
             return head_of(file)
     except OSError:
         return None

@@ -4,7 +4,9 @@ from __future__ import annotations
 
 import contextlib
 import os
-from typing import NamedTuple, Optional, Sequence
+from typing import Optional, Sequence
+
+from exifnorm._named import NamedTuple
 
 from ..extract.formats.streams import digest_of_file
 from ..fields.packing import fields_of
@@ -19,18 +21,15 @@ from ..model.found import EXIF, IPTC, KINDS, NAMES
 from ..model.problems import Problem
 from ..model.texts import Result
 from ..model.records import PictureRecord, Stamp
-from ..scan.batches import How
 from ..scan.looking import look
-from ..scan.walk import FoundFile
+from ..scan.walk import FoundFile, How
 from . import origin
-from .changed.states import Compared, compared
+from .changed.states import Compared, Pair, compared
 from .wording import FieldDifference, exact_side, plain_sides
-from .changed.pairs import Pair
-from .origin import Answers, head_of_file
 
 
 Heads = tuple[Optional[bytes], Optional[bytes]]
-NO_ANSWERS = Answers(None, None)
+NO_ANSWERS = origin.Answers(None, None)
 
 
 class FieldRow(NamedTuple):
@@ -51,7 +50,7 @@ class ComparedPair(NamedTuple):
     compared: Compared
     is_identical: bool  # whether the files have the same bytes
     has_only_fields: bool  # whether only some fields were compared, and no pictures
-    proved: Answers  # of what is in the heads of two JPEGs
+    proved: origin.Answers  # of what is in the heads of two JPEGs
 
     @property
     def result(self) -> Result:
@@ -84,7 +83,7 @@ def read(path: bytes, how: How, session: Session) -> tuple[PictureRecord, bytes 
         with contextlib.suppress(OSError):
             if picture.sha256 is None:  # as of one for which ExifTool is needed
                 picture = picture._replace(sha256=digest_of_file(path, 1 << 62))
-        head = head_of_file(path)
+        head = origin.head_of_file(path)
         is_as_it_was = number is not None and Stamp.of(os.fstat(number)) == stamp
     return picture, head if is_as_it_was else None
 
@@ -100,7 +99,7 @@ def compare(
     return ComparedPair((picture, other), by_metadata, is_identical, bool(choice.only), answers)
 
 
-def _proved(comparison: Compared, heads: Heads) -> Answers:
+def _proved(comparison: Compared, heads: Heads) -> origin.Answers:
     """The answers of the library's proved comparisons, of which the result must not say otherwise."""
     answers = origin.answers(*heads)
     for answer, kinds in ((answers.blocks, (EXIF, IPTC)), (answers.all, KINDS)):

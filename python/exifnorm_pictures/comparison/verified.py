@@ -8,51 +8,49 @@ from __future__ import annotations
 import contextlib
 import hashlib
 import io
-import itertools
 import os
 import re
 import threading
-from collections import deque
-from concurrent.futures import Future, ThreadPoolExecutor
-from itertools import chain, islice
+from concurrent.futures import ThreadPoolExecutor
+from itertools import islice
 from typing import Iterable, Iterator, NamedTuple, Sequence
 
 from ..catalogue.store import Catalogue
 from ..files import opening
-from ..files.copying import is_hollow
+from ..files.opening import is_hollow
 from ..model.records import BlockRecord, PictureRecord, Stamp, has
 from ..model.columns import Damaged
 from ..model.budgets import HOLES
 from ..model.rest import changes, counting
 from ..model.errors import WrongUse
 from ..model.problems import NOT_THERE, TEXTS
-from ..model.words import Word
+from ..model.texts import Word
 from ..model.verdicts import result_of, verdicts
-from ..scan.batches import How, Result
 from ..scan.index import Look, looked
-from ..scan.walk import FoundFile
+from ..scan.walk import FoundFile, How, Result
 
 
 class State(Word):
     """What a file is now."""
 
     text: str  # of how many it is true
+    listed: str  # the word of --list that asks for such files
     is_good: bool | None  # whether its picture is as it was; None: nobody knows
 
-    AS_IT_WAS = ("as they were", "unchanged: the same bytes", True)
-    CAPTIONED = ("captioned", "captioned: other metadata, the same picture", True)
-    AGAIN = ("written again", "written again: the same metadata, the same picture", True)
-    PARTS = ("other parts", "written again: the same metadata and picture, but other parts of the file", False)
-    MOVED = ("moved", "moved: the same file under another name", True)
-    RENUMBERED = ("renumbered", "renumbered: the same file under a name that another one had", True)
-    OTHER = ("other picture", "edited or replaced: other picture, and a later time", False)
-    OTHER_FILE = ("other file", "written since: other bytes, in a format whose pictures aren't compared", False)
-    NOT_LISTED_SO = ("other bytes", "with other bytes than the manifest has", False)
-    ROTTED = ("DAMAGED", "DAMAGED: other bytes, though nothing was written", False)
-    CUT = ("cut off", "DAMAGED: the file is cut off or broken", False)
-    MISSING = ("missing", "missing", False)
-    UNREADABLE = ("can't be read", "can't be read now", None)
-    NO_DIGEST = ("without a digest", "without a digest in the catalogue, so nothing is known: index --pixels adds it", None)
+    AS_IT_WAS = ("as they were", "unchanged: the same bytes", "", True)
+    CAPTIONED = ("captioned", "captioned: other metadata, the same picture", "captioned", True)
+    AGAIN = ("written again", "written again: the same metadata, the same picture", "captioned", True)
+    PARTS = ("other parts", "written again: the same metadata and picture, but other parts of the file", "other")
+    MOVED = ("moved", "moved: the same file under another name", "moved", True)
+    RENUMBERED = ("renumbered", "renumbered: the same file under a name that another one had", "moved", True)
+    OTHER = ("other picture", "edited or replaced: other picture, and a later time", "other")
+    OTHER_FILE = ("other file", "written since: other bytes, in a format whose pictures aren't compared", "other")
+    NOT_LISTED_SO = ("other bytes", "with other bytes than the manifest has", "other")
+    ROTTED = ("DAMAGED", "DAMAGED: other bytes, though nothing was written", "damaged")
+    CUT = ("cut off", "DAMAGED: the file is cut off or broken", "damaged")
+    MISSING = ("missing", "missing", "missing")
+    UNREADABLE = ("can't be read", "can't be read now", "unknown", None)
+    NO_DIGEST = ("without a digest", "without a digest in the catalogue, so nothing is known: index --pixels adds it", "unknown", None)
 
 
 class Verified(NamedTuple):
@@ -276,7 +274,7 @@ def fill(catalogue: Catalogue, bag: str) -> None:
     """Puts the files of a bag's manifest into a new catalogue. Raises `NoBag` and `OSError`."""
     run, count, manifest = catalogue.begin_run(""), 0, os.path.join(bag, MANIFEST)
     files = _files(payload(bag), manifest)
-    while pictures := list(itertools.islice(files, _AT_ONCE)):
+    while pictures := list(islice(files, _AT_ONCE)):
         catalogue.put(run, pictures)
         count += len(pictures)
     if catalogue.number_of("SELECT count(*) FROM pictures") < count:
@@ -302,7 +300,7 @@ def _files(root: bytes, manifest: str) -> Iterator[PictureRecord]:
 
 CHUNK = 1 << 20  # bytes: hashlib lets other threads run while it hashes
 OTHERS = 10_000  # files that are looked into together
-_AHEAD = 4  # files of each thread that wait to be reported
+_AT_A_TIME = 64  # files of each thread, after which all wait for the last one
 
 
 def looker(before: Catalogue) -> Look:
@@ -326,33 +324,22 @@ def looker(before: Catalogue) -> Look:
 
 def _hashed(work: Iterator[FoundFile], threads: int) -> Iterator[tuple[FoundFile, str]]:
     """The files with their SHA-256, in their order. Several threads read them, one file each."""
-    begin = list(islice(work, 2))
-    files = chain(begin, work)
-    if threads == 1 or len(begin) < 2:
-        yield from ((file, digest(file.path)) for file in files)
-        return
-    waiting: "deque[tuple[FoundFile, Future[str]]]" = deque()
     is_stopped = threading.Event()
     with ThreadPoolExecutor(threads) as pool:
         try:
-            for file in files:
-                waiting.append((file, pool.submit(digest, file.path, is_stopped)))
-                if len(waiting) > _AHEAD * threads:
-                    first, future = waiting.popleft()
-                    yield first, future.result()
-            yield from ((first, future.result()) for first, future in waiting)
+            while files := list(islice(work, _AT_A_TIME * threads)):
+                yield from zip(files, pool.map(lambda file: digest(file.path, is_stopped), files))
         finally:
             is_stopped.set()
-            pool.shutdown(wait=True, cancel_futures=True)
 
 
-def digest(path: bytes, is_stopped: threading.Event | None = None) -> str:
+def digest(path: bytes, is_stopped: threading.Event) -> str:
     """SHA-256 of a file; empty if it can't be read, is mostly holes, or if nobody needs it any more."""
     whole = hashlib.sha256()
     with contextlib.suppress(OSError), opening.reading(path) as file:
         if is_hollow(file.fileno(), os.fstat(file.fileno()).st_size, HOLES):
             return ""
-        while (piece := file.read(CHUNK)) and not (is_stopped and is_stopped.is_set()):
+        while (piece := file.read(CHUNK)) and not is_stopped.is_set():
             whole.update(piece)
         return "" if piece else whole.hexdigest()
     return ""

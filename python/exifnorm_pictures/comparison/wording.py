@@ -2,13 +2,12 @@
 
 from __future__ import annotations
 
-import difflib
 import re
 import unicodedata
-from dataclasses import dataclass
-from fractions import Fraction
 from itertools import compress, count
-from typing import Any, NamedTuple, Sequence
+from typing import Any, Sequence
+
+from exifnorm._named import NamedTuple
 
 from ..fields.field import Field
 from ..fields.listing import LONGEST_BYTES, OCTETS, counted_type, digest_of, order_of, shortened
@@ -44,9 +43,7 @@ class FieldDifference(NamedTuple):
         """`+` for a field that came, `-` for one that went, and `~` for one that changed."""
         if self.note or (self.before and self.after):
             return "~"
-        if self.after:
-            return "+"
-        return "-"
+        return "+" if self.after else "-"
 
     @property
     def is_equal_number(self) -> bool:
@@ -89,13 +86,13 @@ def _octets_form(value: Any) -> object:
     """Bytes or their digest, the same whether they are kept whole or not."""
     if isinstance(value, Long):
         return value.digest
-    if len(value) <= LONGEST_BYTES:
-        return value
-    return digest_of(value)
+    return value if len(value) <= LONGEST_BYTES else digest_of(value)
 
 
 def _plain_number(value: Any) -> object:
     """A number by its value, and a fraction with the denominator 0 by its sign."""
+    from fractions import Fraction  # which takes long to import
+
     if isinstance(value, int):
         return Fraction(value)
     above, below = value
@@ -168,11 +165,11 @@ def tell_apart(texts: Sequence[str]) -> list[str]:
     for hidden in (_HIDDEN, _NOT_ASCII):
         if len(set(map(look, shown))) == len(set(texts)):
             break
-        shown = [hidden.sub(_number, text) for text in texts]
+        shown = [re.sub(hidden, _number, text) for text in texts]
     return shown
 
 
-# Characters that don't show, such as a space at the end, or that show as a part of another one
+# Expressions for characters, which take long to compile, and few runs need. Characters that don't show, such as a space at the end, or that show as a part of another one
 _ACCENTS = "\u0300-\u036f\u1ab0-\u1aff\u1dc0-\u1dff\u20d0-\u20ff\ufe20-\ufe2f"
 _BLANKS = "\0-\x1f\x7f-\xa0\u1680\u2000-\u200a\u2028\u2029\u202f\u205f\u2800\u3000"
 # By Unicode's property Default_Ignorable_Code_Point, and its marks of annotations
@@ -180,14 +177,13 @@ _IGNORED = (
     "\xad\u034f\u061c\u115f\u1160\u17b4\u17b5\u180b-\u180f\u200b-\u200f\u202a-\u202e\u2060-\u206f\u3164\ufe00-\ufe0f\ufeff\uffa0\ufff0-\ufffb"
     "\U0001bca0-\U0001bca3\U0001d173-\U0001d17a\U000e0000-\U000e0fff"
 )
-_HIDDEN = re.compile(rf"[{_ACCENTS}{_BLANKS}{_IGNORED}]|^ | \Z| (?= )")
-_NOT_ASCII = re.compile("[^\x00-\x7f]")
-_NOTHING, _SPACE = re.compile(f"[{_IGNORED}]"), re.compile(f"[{_BLANKS}]")
+_HIDDEN, _NOT_ASCII = rf"[{_ACCENTS}{_BLANKS}{_IGNORED}]|^ | \Z| (?= )", "[^\x00-\x7f]"
 
 
 def look(text: str) -> str:
     """Equal of texts that look alike."""
-    return " ".join(_SPACE.sub(" ", text if text.isascii() else _NOTHING.sub("", unicodedata.normalize("NFC", text))).split())
+    shown = text if text.isascii() else re.sub(f"[{_IGNORED}]", "", unicodedata.normalize("NFC", text))
+    return " ".join(re.sub(f"[{_BLANKS}]", " ", shown).split())
 
 
 def numbered(text: str) -> str:
@@ -196,7 +192,7 @@ def numbered(text: str) -> str:
     >>> numbered("a\u00a0b "), numbered("Zu\u0308rich")
     ('a<U+00A0>b<U+0020>', 'Zu<U+0308>rich')
     """
-    return _HIDDEN.sub(_number, text)
+    return re.sub(_HIDDEN, _number, text)
 
 
 def _number(character: "re.Match[str]") -> str:
@@ -234,7 +230,7 @@ def tag_of(difference: FieldDifference) -> str:
 
 # Scripts without blanks between words have a word for each character
 _NO_BLANKS = "\u0e00-\u0eff\u1000-\u109f\u1780-\u17ff\u3040-\u30ff\u3400-\u4dbf\u4e00-\u9fff\uf900-\ufaff\U00020000-\U0003ffff"
-_WORD = re.compile(rf"\s+|[^\W{_NO_BLANKS}]+|.", re.S)
+_WORD = rf"(?s)\s+|[^\W{_NO_BLANKS}]+|."
 STEPS = 1_000_000  # of comparing two words with each other, for all texts of a picture: a stranger's may have millions of words
 KEPT, OUT, IN = "=", "-", "+"
 
@@ -277,11 +273,11 @@ def _joined(steps: Sequence[Step]) -> list[Step]:
     return joined + [Step(OUT, out)] * bool(out) + [Step(IN, put)] * bool(put)
 
 
-@dataclass
 class Marker:
     """Marks the words of texts for a limited number of steps; then only common beginnings and ends aren't marked."""
 
-    steps: int = STEPS
+    def __init__(self, steps: int = STEPS) -> None:
+        self.steps = steps
 
     def script(self, before: str, after: str) -> list[Step]:
         """How one text becomes the other one, word by word.
@@ -289,13 +285,15 @@ class Marker:
         >>> Marker().script("a bowl, 1820", "a bowl, 1280")
         [Step(sign='=', text='a bowl, '), Step(sign='-', text='1820'), Step(sign='+', text='1280')]
         """
-        words, others = _WORD.findall(before), _WORD.findall(after)
+        words, others = re.findall(_WORD, before), re.findall(_WORD, after)
         start = _common(words, others)
         ends = _common(words[start:][::-1], others[start:][::-1])
         first, second = words[start : len(words) - ends], others[start : len(others) - ends]
         self.steps -= len(first) * len(second)
         codes = [("replace", 0, len(first), 0, len(second))]
         if self.steps >= 0 and first and second:
+            import difflib
+
             codes = difflib.SequenceMatcher(None, first, second, False).get_opcodes()
         steps = [Step(KEPT, "".join(words[:start]))]
         for word, begin, end, other_begin, other_end in codes:

@@ -9,12 +9,11 @@ from datetime import MAXYEAR, MINYEAR
 from itertools import islice
 from typing import Iterable, Iterator, NamedTuple, Sequence
 
-from ..catalogue.conflicts import conflicts
 from ..catalogue.store import Catalogue
 from ..catalogue.texts import texts_of
 from ..comparison.same.group import Keep, keeping, sentence_of
 from ..comparison.same.groups import Groups
-from ..fields.packing import divided, field_of, packed_fields, unpacked
+from ..fields.packing import divided, field_of, unpacked
 from ..fields.field import Field
 from ..fields.labels import Caption, names_camera, word_of
 from ..fields.listing import is_rest
@@ -25,7 +24,7 @@ from ..fields.typed import number_of
 from ..files import signals
 from ..files.session import Session
 from ..model import steps
-from ..model.records import BlockRecord, PictureRecord
+from ..model.records import BLOCKS, BlockRecord, PictureRecord, block_of_row, not_read_of_row
 from ..model.columns import Damaged
 from ..model.budgets import CACHED, SQL_STEPS, WAITING_BYTES
 from ..model.errors import Failure
@@ -219,14 +218,10 @@ CREATE INDEX maker_notes_by_name ON maker_notes (name, value);
 CREATE INDEX groups_by_picture ON groups (picture);
 """
 
-# Columns that are mostly NULL. Rows have an empty text there: of each None Python 3.11 asks for an adapter, which fails by an error each time.
-_EMPTY_IS_NULL = {
-    "pictures": set("path_bytes problem detail exif iptc xmp coded_picture sha256 damage latitude longitude".split()),
-    "blocks": {"cause", "repair"},
-    "fields": {"number"},
-    "captions": {"block", "guess"},
-    "conflicts": {"detail"},
-}
+# Positions are found after the rows of pictures are written. Those of a million pictures don't fit into memory
+_POSITIONS = "CREATE TEMP TABLE positions (picture INTEGER PRIMARY KEY, latitude REAL, longitude REAL)"
+_PLACE = """UPDATE pictures SET (latitude, longitude) = (SELECT latitude, longitude FROM positions WHERE picture = id)
+    WHERE id IN (SELECT picture FROM positions)"""
 
 Row = tuple[object, ...]
 
@@ -241,9 +236,9 @@ class Tables:
         self.counts: dict[str, int] = {}
 
     def add_all(self, table: str, rows: Iterable[Row]) -> None:
-        """Adds rows to a table, of which a thousand at a time are in memory."""
+        """Adds a series of rows to a table, of which a hundred at a time are made."""
         left = iter(rows)
-        while several := list(islice(left, _ROWS)):
+        while several := list(islice(left, 100)):
             self.add(table, several)
 
     def add(self, table: str, rows: list[Row]) -> None:
@@ -271,17 +266,19 @@ class Tables:
         rows = self._rows.pop(table, [])
         if not rows:
             return
-        columns = [name for _, name, *_ in self._base.execute(f"PRAGMA table_info({table})")]
-        places = ", ".join("nullif(?, '')" if name in _EMPTY_IS_NULL.get(table, ()) else "?" for name in columns)
+        values = f"INTO {table} VALUES ({', '.join('?' * len(rows[0]))})"
         try:
-            self._base.executemany(f"INSERT INTO {table} VALUES ({places})", rows)
-        except UnicodeEncodeError:  # in one of the rows; those before it are written
-            whole = [tuple(map(_stored, row)) for row in rows]
-            self._base.executemany(f"INSERT OR REPLACE INTO {table} VALUES ({places})", whole)
+            self._base.executemany(f"INSERT {values}", rows)
+        except (
+            UnicodeEncodeError
+        ):  # halves of characters in one of the rows, which a damaged catalogue may have; those before it are written
+            whole = [[it.encode("utf-8", "backslashreplace").decode() if isinstance(it, str) else it for it in row] for row in rows]
+            self._base.executemany(f"INSERT OR REPLACE {values}", whole)
 
     def finish(self) -> None:
         """Writes what is left, and the indexes."""
         self._write_all()
+        self._base.execute(_PLACE)
         self._base.execute("COMMIT")
         self._base.executescript(_INDEXES)
         self._base.execute("ANALYZE")
@@ -300,7 +297,7 @@ def tables(file: str) -> Iterator[Tables]:
         ):
             base.execute(f"PRAGMA {pragma}")
         base.set_progress_handler(lambda: 0, SQL_STEPS)  # lets Python heed a signal while an index is made
-        base.executescript(SCHEMA)
+        base.executescript(SCHEMA + _POSITIONS)
         base.execute("BEGIN")
         written = Tables(base)
         try:
@@ -319,7 +316,7 @@ def storable(rows: list[Row]) -> tuple[list[Row], int]:
     >>> storable([(1, "a\0b", None, "c"), (2, "", None, "d")])
     ([(1, 'a\\x00b', None, 'c'), (2, '', None, 'd')], 5)
     """
-    text = "".join(cell for row in rows for cell in row if isinstance(cell, str))
+    text = "".join([cell for row in rows for cell in row if type(cell) is str])
     if "\0" in text:
         rows = [tuple(without_nul(cell) if isinstance(cell, str) else cell for cell in row) for row in rows]
     return rows, len(text)
@@ -332,11 +329,6 @@ def without_nul(text: str) -> str:
     'a\\x00b'
     """
     return text.replace("\0", "\\x00")
-
-
-def _stored(value: object) -> object:
-    """A value that SQLite takes: a text without halves of characters, which a damaged catalogue may have."""
-    return value.encode("utf-8", "backslashreplace").decode("utf-8") if isinstance(value, str) else value
 
 
 def head_is_ours(head: bytes) -> bool:
@@ -359,62 +351,64 @@ class Export:
 
     def all(self, quiet: bool) -> None:
         """Adds each picture, and then the groups. Prints its progress, unless it is quiet."""
-        where = f" WHERE path IN {self.only}" if self.only else ""
-        progress = Progress(self.catalogue.number_of(f"SELECT count(*) FROM pictures{where}"), quiet=quiet)
-        for count, picture in enumerate(self.catalogue.pictures(self.only), 1):
-            self._picture(picture)
+        where = f" WHERE picture IN (SELECT id FROM pictures WHERE path IN {self.only})" if self.only else ""
+        self.tables.add_all("pictures", map(_picture_row, self.catalogue.pictures(self.only)))
+        self.tables.add_all("not_read", self.catalogue.rows(f"SELECT picture, number, what, digest FROM not_read{where}", (), _part_row))
+        progress = Progress(self.tables.counts.get("pictures", 0), quiet=quiet)
+        for count, (picture, rows) in enumerate(self.catalogue.packed_fields(", ".join(BLOCKS.names[:-1]), where), 1):
+            self._picture(picture, rows)
             progress.done(count)
+        progress.done(progress.total)
         for number, group in enumerate(self.groups.by_meaning(), 1):
             keeps = keeping(group) if self.session else {}
             about = (number, group.basis, sentence_of(group))
-            self.tables.add_all("groups", ((*about, it.id, *_keep_row(keeps.get(it.id, Keep()))) for it in group.members))
+            kept = ((it.id, keeps.get(it.id, Keep())) for it in group.members)
+            self.tables.add_all("groups", ((*about, number, it.keep, it.note() or None) for number, it in kept))
 
-    def _picture(self, picture: PictureRecord) -> None:
+    def _picture(self, picture: int, rows_of_blocks: Iterable[Row]) -> None:
+        """Adds the blocks of a picture, and what they have."""
         with self.catalogue.guarded():
-            blocks = [(block, self._fields.of_block(packed_fields(block))) for block in self.catalogue.blocks_of(picture)]
+            blocks = [(block, self._fields.of_block(block.fields)) for block in map(block_of_row, rows_of_blocks)]
         angles = [row.angle for _, rows in blocks for row in rows if row.angle]
         place = position_of(angles) if angles else None
-        self.tables.add("pictures", [(*_picture_row(picture), *(place or ("", "")))])
+        if place:
+            self.tables.add("positions", [(picture, *place)])
         if any(block.note is not None for block, _ in blocks):
             self._maker_notes(picture)
-        self.tables.add("blocks", [_block_row(picture, number, block) for number, (block, _) in enumerate(blocks)])
+        self.tables.add("blocks", [(picture, number, *_block_row(block)) for number, (block, _) in enumerate(blocks)])
         for number, (_, rows) in enumerate(blocks):
-            cells = [(picture.id, number, at, *row.cells) for at, row in enumerate(rows)]
-            self.tables.add_storable("fields", cells, sum(row.size for row in rows))
+            cells = [(picture, number, at, *row.cells) for at, row in enumerate(rows)]
+            self.tables.add_storable("fields", cells, sum([row.size for row in rows]))
         self._texts(picture, [(block, [it for row in rows for it in (row.text, row.angle) if it]) for block, rows in blocks])
-        if picture.not_read != "":
-            parts = self.catalogue.not_read_of(picture)
-            self.tables.add("not_read", [(picture.id, at, part.what) for at, part in enumerate(parts)])
 
-    def _maker_notes(self, picture: PictureRecord) -> None:
+    def _maker_notes(self, picture: int) -> None:
         """What ExifTool reads of the MakerNotes of a picture, if it was asked."""
         from ..judge.maker_notes import unpacked_reading  # which takes long to import
 
-        reading = self.catalogue.maker_notes(picture, unpacked_reading)
+        reading = self.catalogue.maker_notes(PictureRecord(picture), unpacked_reading)
         self.maker_notes += reading is None
         values = reading.values.items() if reading else ()
-        self.tables.add("maker_notes", [(picture.id, at, *value) for at, value in enumerate(values)])
+        self.tables.add("maker_notes", [(picture, at, *value) for at, value in enumerate(values)])
 
-    def _texts(self, picture: PictureRecord, blocks: Sequence[tuple[BlockRecord, list[Field]]]) -> None:
+    def _texts(self, picture: int, blocks: Sequence[tuple[BlockRecord, list[Field]]]) -> None:
         texts = texts_of(blocks)
         missing = texts.missing
         self.missing += bool(missing)
         rows = [*_text_rows(texts.texts), *((word, *(None,) * 6) for word in sorted(missing))]
-        self.tables.add("captions", [(picture.id, at, *row) for at, row in enumerate(rows)])
-        known = [one for one in conflicts(texts.texts, texts.located) if not one.is_alike and one.label not in missing]
-        self.tables.add("conflicts", [(picture.id, one.label, one.kind, one.detail) for one in known])
+        self.tables.add("captions", [(picture, at, *row) for at, row in enumerate(rows)])
+        self.tables.add("conflicts", [(picture, one.label, one.kind, one.detail or None) for one in texts.conflicts()])
+
+
+def _part_row(row: Row) -> Row:
+    return (*row[:2], not_read_of_row(row[2:]).what)
 
 
 def _picture_row(picture: PictureRecord) -> Row:
     path, is_escaped = _path(picture.path)
-    names = (path, int(is_escaped), picture.path if is_escaped else "", _path(picture.root)[0])
-    about = (picture.type or None, _state(picture), picture.problem or "", picture.detail, picture.size, _time(picture.modified))
-    digests = [one or "" for one in (*picture.meanings, picture.coded_picture, picture.sha256)]
-    return (picture.id, *names, *about, *digests, picture.damage)
-
-
-def _keep_row(keep: Keep) -> Row:
-    return None if keep.keep is None else int(keep.keep), keep.note() or None
+    names = (path, int(is_escaped), picture.path if is_escaped else None, _path(picture.root)[0])
+    about = (picture.type or None, _state(picture), picture.problem or None, picture.detail or None, picture.size, _time(picture.modified))
+    digests = [one or None for one in (*picture.meanings, picture.coded_picture, picture.sha256)]
+    return (picture.id, *names, *about, *digests, picture.damage or None, None, None)
 
 
 def _path(path: bytes) -> tuple[str, bool]:
@@ -426,9 +420,7 @@ def _path(path: bytes) -> tuple[str, bool]:
 def _state(picture: PictureRecord) -> str:
     if picture.problem:
         return "not read"
-    if picture.state == "no block":
-        return "no metadata"
-    return picture.state
+    return "no metadata" if picture.state == "no block" else picture.state
 
 
 def _time(nanoseconds: int | None) -> str | None:
@@ -442,9 +434,16 @@ def _time(nanoseconds: int | None) -> str | None:
     return "%04d-%02d-%02d %02d:%02d:%02d" % (year, month, day, *clock) if MINYEAR <= year <= MAXYEAR else None
 
 
-def _block_row(picture: PictureRecord, number: int, block: BlockRecord) -> Row:
-    about = (block.kind, block.name, block.source, block.extractor, block.status, block.cause or "", block.place, block.length)
-    return (picture.id, number, *about, steps.words(block.steps), block.digest, int(block.note is not None))
+def _block_row(block: BlockRecord) -> Row:
+    return (
+        *block[:5],
+        block.cause or None,
+        block.place,
+        block.length,
+        steps.words(block.steps) or None,
+        block.digest,
+        int(block.note is not None),
+    )
 
 
 class FieldRow(NamedTuple):
@@ -494,8 +493,9 @@ class FieldRows:
         if "\0" in all_of_them:
             texts = list(map(without_nul, texts))
         number = number_of(field)
-        cells = (*texts[:4], field.count, *texts[4:], "" if number is None else number)
-        return FieldRow(cells, len(all_of_them), field if is_text else None, field if is_angle else None)
+        return FieldRow(
+            (*texts[:4], field.count, *texts[4:], number), len(all_of_them), field if is_text else None, field if is_angle else None
+        )
 
     def _about_of(self, field: Field) -> _About:
         directory, tag = field.directory, field.tag
@@ -511,5 +511,5 @@ class FieldRows:
 def _text_rows(texts: Sequence[Caption]) -> Iterator[Row]:
     """A row for each text, several of a list."""
     for caption in texts:
-        about, more = (caption.label, caption.standard, caption.field, caption.block), (caption.guess, int(caption.is_own))
+        about, more = (caption.label, caption.standard, caption.field, caption.block or None), (caption.guess or None, int(caption.is_own))
         yield from [(*about, text, *more) for text in caption.texts if text]

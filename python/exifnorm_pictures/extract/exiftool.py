@@ -161,8 +161,7 @@ def values(answer: dict[str, str], tag: str) -> list[str]:
 def by_others(session: Session, path: bytes, stream: Stream, whole: bool, why: str) -> Blocks:
     """The blocks that ExifTool and exiv2 extract; `why` is the reason why the file was not read here, for a known format. Raises
     `programs.Missing` and `programs.Failed`."""
-    answer = ask(session, path, _WORDS)
-    blocks = _blocks(answer)
+    blocks = _blocks(ask(session, path, _WORDS))
     blocks.budget = budget_of(stream)
     if blocks.problem:
         return blocks

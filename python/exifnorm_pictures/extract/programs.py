@@ -13,7 +13,9 @@ import select
 import shutil
 import signal
 import time
-from typing import TYPE_CHECKING, Callable, NamedTuple
+from typing import TYPE_CHECKING, Callable
+
+from exifnorm._named import NamedTuple
 
 from ..files import signals
 from ..model.budgets import OUTPUT, PROGRAM_BYTES
@@ -28,7 +30,6 @@ PACKAGES = {"exiftool": "libimage-exiftool-perl", "exiv2": "exiv2"}
 
 _PIECE = 1 << 20
 _PR_SET_PDEATHSIG = 1
-_NO_MEMORY = re.compile(rb"^Out of memory|bad_alloc", re.M)  # what Perl and C++ write when they get no more
 _WORDS = 1000  # bytes that are kept of what a program writes on standard error
 
 
@@ -202,6 +203,6 @@ def read_until(started: "subprocess.Popen[bytes]", complete: Callable[[bytearray
             output += piece
         if len(output) > OUTPUT:
             raise Failed(f"{name} wrote more than {OUTPUT:,} bytes about one file")
-    if _NO_MEMORY.search(words) and not complete(output):
+    if re.search(rb"(?m)^Out of memory|bad_alloc", words) and not complete(output):
         raise Failed(f"{name} needed more than {_memory()[0] >> 20:,} MB of memory")
     return bytes(output)

@@ -6,10 +6,12 @@ import os
 import re
 from typing import Callable, NamedTuple
 
-from ..model.found import Blocks
+from ..model.budgets import PACKET_BYTES, TooMuch, budget_of
+from ..model.found import XMP, XMP_FILE, Blocks, LeftToOthers
 from . import raw_files
-from .formats import cr3, gif, heif, jp2, jpeg, jxl, png, psd, raf, tiff, webp, xmp_file
-from .formats.streams import Stream
+from .formats import cr3, gif, heif, jp2, jpeg, jxl, png, psd, raf, tiff, webp
+from .formats.packet_start import begins_packet
+from .formats.streams import HEAD as FIRST, Stream, read_at, size_of
 
 HEAD = 16  # bytes of a file that show its format
 _BLANK, _PACKETS = b"\xef\xbb\xbf \t\r\n", (b"<?xpacket begin", b"<x:xmpmeta")  # of a file that has no name, or one without an ending
@@ -33,6 +35,21 @@ def type_of(blocks: Blocks, path: bytes) -> str:
     return named[1].decode("ascii").upper() if named else blocks.type
 
 
+def read_packet(stream: Stream, whole: bool = False) -> Blocks:
+    """A file NAME.xmp by itself, as programs put it beside a picture that they don't write to: one packet (XMP part 3). Raises `LeftToOthers` for what doesn't begin like one, and `TooMuch`."""
+    size = size_of(stream)
+    begins = begins_packet(read_at(stream, 0, min(size, FIRST)))
+    if begins is None and size > FIRST:
+        begins = begins_packet(read_at(stream, 0, min(size, PACKET_BYTES)))
+    if not begins:
+        raise LeftToOthers("it doesn't begin as XMP does")
+    if size > PACKET_BYTES:
+        raise TooMuch(f"more than {PACKET_BYTES:,} bytes of XMP")
+    blocks = Blocks(type=XMP_FILE, budget=budget_of(stream))
+    blocks.add(XMP, read_at(stream, 0, size), "file")
+    return blocks
+
+
 FORMATS: tuple[Format, ...] = (
     Format("JPEG", lambda head, _: head.startswith(jpeg.START), jpeg.read),
     Format("PNG", lambda head, _: head.startswith(png.START), png.read),
@@ -50,7 +67,7 @@ FORMATS: tuple[Format, ...] = (
     Format(
         "NAME.xmp",
         lambda head, path: path.lower().endswith(b".xmp") or (not os.path.splitext(path)[1] and head.lstrip(_BLANK).startswith(_PACKETS)),
-        xmp_file.read,
+        read_packet,
     ),
 )
 

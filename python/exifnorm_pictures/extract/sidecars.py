@@ -11,7 +11,9 @@ from __future__ import annotations
 import hashlib
 import os
 import re
-from typing import Callable, Iterable, Iterator, NamedTuple, Sequence
+from typing import Callable, Iterable, Iterator, Sequence
+
+from exifnorm._named import NamedTuple
 
 from ..files import opening
 from ..model.budgets import LIMITS, PACKET_BYTES, XMP_BYTES

@@ -4,7 +4,6 @@ from __future__ import annotations
 
 import fnmatch
 import re
-from dataclasses import dataclass, field
 from typing import Callable, Iterable, Iterator, Mapping, Sequence
 
 from ..model.found import EXIF, IPTC, NAMES, XMP
@@ -32,7 +31,7 @@ class UnknownField(WrongUse):
     """A name that no field can have, and that no picture has."""
 
 
-_WILD = re.compile(r"[*?]")
+_WILD = "[*?]"
 
 
 def fits_of(pattern: str) -> Test:
@@ -46,7 +45,7 @@ def fits_of(pattern: str) -> Test:
     folded = pattern.casefold()
     if folded == "*":
         return lambda names, groups, others: True
-    if not _WILD.search(folded):
+    if not re.search(_WILD, folded):
         asked = asked_name(folded)
         return lambda names, groups, others: folded in names or folded in groups or asked in others
     compiled = _compiled(folded)
@@ -65,7 +64,7 @@ def _of_form(folded: str, names: Iterable[str]) -> Iterator[str]:
 
 def is_of_several(pattern: str) -> bool:
     """Whether a pattern is meant for several fields: it has wildcards, or is a group."""
-    return bool(_WILD.search(pattern)) or pattern.casefold() in {"iptc", "xmp", *EXIF_GROUPS, *XMP_GROUPS}
+    return bool(re.search(_WILD, pattern)) or pattern.casefold() in {"iptc", "xmp", *EXIF_GROUPS, *XMP_GROUPS}
 
 
 def ambiguous(named: Mapping[str, Iterable[str]]) -> dict[str, list[str]]:
@@ -91,8 +90,7 @@ def kinds_of(pattern: str) -> frozenset[str]:
     (['exif'], ['iptc'], ['xmp'], 3)
     """
     group, colon, _ = pattern.casefold().partition(":")
-    if "." in group:  # as exiv2 has it
-        group = {"exif": "exif", "iptc": "iptc", "xmp": "xmp"}.get(group.partition(".")[0], group)
+    group = next((kind for kind in NAMES if group.startswith(f"{kind}.")), group)  # as exiv2 has it
     if group in EXIF_GROUPS:
         return frozenset({EXIF})
     if group == "iptc" or (colon and group.isdigit()):
@@ -104,7 +102,7 @@ def kinds_of(pattern: str) -> frozenset[str]:
 
 def is_known(pattern: str) -> bool:
     """Whether pictures can have a field of a pattern."""
-    if not _WILD.search(pattern):
+    if not re.search(_WILD, pattern):
         return is_possible(pattern)
     group, colon, _ = pattern.casefold().partition(":")
     if colon and (group in EXIF_GROUPS or group in XMP_GROUPS or group == "iptc" or group.isdigit()):
@@ -155,15 +153,13 @@ def meant(name: str, names: Sequence[str]) -> str:
     return f" (perhaps {own[near[0]]} is meant)" if near else hint(name)
 
 
-@dataclass
 class Pattern:
     """A pattern, the set that it is of, whether a field fits it, and the names of those that do."""
 
-    text: str
-    test: Test
-    of_set: str = ""
-    is_seen: bool = False
-    names: set[str] = field(default_factory=set)
+    def __init__(self, text: str, test: Test, of_set: str = "") -> None:
+        self.text, self.test, self.of_set = text, test, of_set
+        self.is_seen = False
+        self.names: set[str] = set()
 
 
 def _patterns(words: Sequence[str]) -> list[Pattern]:

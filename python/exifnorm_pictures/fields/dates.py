@@ -74,6 +74,8 @@ def is_impossible(day: str) -> bool:
 
     >>> [is_impossible(it) for it in ("2023-02-30", "2024-02-29", "2023-13", "2023-00-00", "2023-01-01 25:00", "about 1900")]
     [True, False, True, False, True, False]
+    >>> [is_impossible(f"2016-12-31 23:59:{it}") for it in ("59", "60", "61")]
+    [False, False, True]
     """
     match = _WHOLE.fullmatch(day.replace("T", " "))
     if match is None:

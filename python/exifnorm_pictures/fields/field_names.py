@@ -141,7 +141,8 @@ def dictionary() -> tuple[Names, tuple[str, ...]]:
     """All names of the standards' fields and of their groups; and those of them that are printed and no numbers, as they are printed."""
     fields = _known_fields()
     names = frozenset(name for it in fields for some in names_and_groups(*it) for name in some)
-    printed = [it for it in (group_name(*it) for it in fields) if not _NUMBER.fullmatch(it.partition(":")[2])]
+    is_number = re.compile(_NUMBER).fullmatch  # of thousands of names
+    printed = [it for it in (group_name(*it) for it in fields) if not is_number(it.partition(":")[2])]
     return names, tuple(dict.fromkeys([*printed, *(it.partition(":")[2] for it in printed)]))
 
 
@@ -175,7 +176,7 @@ _TAGS_IN_XMP = (("tiff", "main"), ("exif", "exif"), ("exif", "gps"))
 _PREFIXES = {it.casefold() for it in (*PREFIXES, *(one for some in _OTHER_PREFIXES.values() for one in some[:1]), *_SPACES.values())}
 EXIF_GROUPS = {"exif", *(it.casefold() for where in _DIRECTORIES[:5] for it in (where, group_of(where)))}
 XMP_GROUPS = (_PREFIXES - EXIF_GROUPS) | {f"xmp-{it}" for it in _PREFIXES}
-_NUMBER = re.compile(r"([a-z0-9]+:)?0x[0-9a-f]{4}|(iptc:)?[0-9]{1,3}:[0-9]{1,3}|(xmp:)?<.*>", re.S)
+_NUMBER = r"(?s)([a-z0-9]+:)?0x[0-9a-f]{4}|(iptc:)?[0-9]{1,3}:[0-9]{1,3}|(xmp:)?<.*>"
 
 
 def is_possible(name: str) -> bool:
@@ -185,7 +186,7 @@ def is_possible(name: str) -> bool:
     [True, False, True, True, True, False, True]
     """
     folded = name.casefold()
-    if folded in dictionary()[0] or _NUMBER.fullmatch(folded):
+    if folded in dictionary()[0] or re.fullmatch(_NUMBER, folded):
         return True
     group, colon, rest = folded.partition(":")
     return bool(colon and rest) and group in XMP_GROUPS

@@ -377,19 +377,19 @@ def _dates(exif: dict[str, Field], record: dict[str, list[bytes]]) -> Iterator[C
     """The date of the picture, with its time and its parts of a second, if they are there."""
     taken, part, zone = (_ascii(_octets(exif.get(tag))) for tag in ("9003", "9291", "9011"))
     if "9003" in exif:
-        text = taken.replace(":", "-", 2) + f".{part}" * part.isdigit()
+        text = taken[:10].replace(":", "-") + taken[10:] + f".{part}" * part.isdigit()
         text += zone if re.fullmatch(r"Z|[+-]\d\d:\d\d", zone) else ""
         yield Caption(DATE, NAMES[EXIF], _NAMES[exif["9003"].directory, "9003"], (text if text.strip(" -:0.") else "",))
     if "2:55" in record:
         day, time = _ascii(record["2:55"][0]), _ascii(record.get("2:60", [b""])[0])
         text = re.sub(r"^(\d{4})(\d\d)(\d\d)$", r"\1-\2-\3", day)
-        clock = re.sub(r"^(\d\d)(\d\d)(\d\d(?:\.\d+)?)(?:([+-]\d\d)(\d\d))?$", _time, time)
+        clock = re.sub(
+            r"^(\d\d)(\d\d)(\d\d(?:\.\d+)?)(?:([+-]\d\d)(\d\d))?$",
+            lambda it: f"{it[1]}:{it[2]}:{it[3]}" + (f"{it[4]}:{it[5]}" if it[4] else ""),
+            time,
+        )
         text += f" {clock}" if re.match(r"\d{6}", time) else ""
         yield Caption(DATE, NAMES[IPTC], _NAMES["iptc", "2:55"], (text if text.strip(" -:0+") else "",))
-
-
-def _time(match: "re.Match[str]") -> str:
-    return f"{match[1]}:{match[2]}:{match[3]}" + (f"{match[4]}:{match[5]}" if match[4] else "")
 
 
 def _ascii(octets: bytes) -> str:

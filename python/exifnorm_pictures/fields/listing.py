@@ -9,7 +9,6 @@ from typing import Iterable, Iterator, Sequence
 from ..model import xmp_values
 from ..model.budgets import SHOWN_CHARACTERS, SHOWN_FIELDS
 from ..model.texts import quoted
-from ..model.xmp_values import Long, XmpValue
 from .field import Content, Field, Ratio
 from .names import group_of, plain_name
 
@@ -78,14 +77,14 @@ def kept_value(field: Field) -> Content:
     value = field.content
     if isinstance(value, bytes):
         if field.directory == "thumb" and field.type == "octets":
-            return Long(digest_of(value), b"")
-        return value if len(value) <= LONGEST_BYTES or not _is_long(field, value) else Long(digest_of(value), value[:8])
-    if isinstance(value, Long):
+            return xmp_values.Long(digest_of(value), b"")
+        return value if len(value) <= LONGEST_BYTES or not _is_long(field, value) else xmp_values.Long(digest_of(value), value[:8])
+    if isinstance(value, xmp_values.Long):
         return value
     if field.directory == "xmp":
         return tuple([kept_property(one) for one in value])  # type: ignore[arg-type]
     text = numbers_text(field.type, value)  # type: ignore[arg-type]
-    return value if len(text) <= LONGEST_NUMBERS else Long(digest_of(text.encode()), text[:_BEGINS])
+    return value if len(text) <= LONGEST_NUMBERS else xmp_values.Long(digest_of(text.encode()), text[:_BEGINS])
 
 
 def _is_long(field: Field, octets: bytes) -> bool:
@@ -94,7 +93,7 @@ def _is_long(field: Field, octets: bytes) -> bool:
     return len(octets) > 4 * LONGEST_OTHER_TEXT or len(plain_text(octets) or " " * 999) > LONGEST_OTHER_TEXT
 
 
-def kept_property(value: XmpValue) -> XmpValue:
+def kept_property(value: xmp_values.XmpValue) -> xmp_values.XmpValue:
     """A value of XMP, or if it is too long to be kept, its digest and its beginning."""
     if isinstance(value, xmp_values.Literal) and len(value.text) < LONGEST_TEXT // 4:
         return value
@@ -102,9 +101,9 @@ def kept_property(value: XmpValue) -> XmpValue:
         text = xmp_values.exact(xmp_values.Literal(value.text[:_BEGINS]))
     else:
         text = xmp_values.exact(value)
-        if len(text.encode("utf-8", "surrogatepass")) <= LONGEST_TEXT or isinstance(value, Long):
+        if len(text.encode("utf-8", "surrogatepass")) <= LONGEST_TEXT or isinstance(value, xmp_values.Long):
             return value
-    return Long(digest_of(xmp_values.identity(value).encode("utf-8", "surrogatepass")), text[:_BEGINS])
+    return xmp_values.Long(digest_of(xmp_values.identity(value).encode("utf-8", "surrogatepass")), text[:_BEGINS])
 
 
 # Exact values
@@ -119,14 +118,14 @@ def exact(field: Field) -> str:
     value = kept_value(field)
     if isinstance(value, bytes):
         return _exact_octets(field, value)
-    if isinstance(value, Long):
+    if isinstance(value, xmp_values.Long):
         return _exact_long(field, value)
     if field.directory == "xmp":
         return ", ".join(map(xmp_values.exact, value))  # type: ignore[arg-type]
     return numbers_text(field.type, value)  # type: ignore[arg-type]
 
 
-def _exact_long(field: Field, value: Long) -> str:
+def _exact_long(field: Field, value: xmp_values.Long) -> str:
     if not field.directory:
         return f"{value.begins!s}; sha256:{value.digest}"
     begins = f"0x{value.begins.hex()}" if value.begins and isinstance(value.begins, bytes) else str(value.begins or "")
@@ -190,12 +189,9 @@ def _wide_text(octets: bytes) -> str | None:
     return bare if bare and all(it.isprintable() or it in "\n\r\t" for it in bare) else None
 
 
-_DIGEST = re.compile(r"sha256:([0-9a-f]{12})[0-9a-f]+$")
-
-
 def shortened(text: str) -> str:
     """An exact value with the first twelve digits of its digest: short enough for a line, long enough to distinguish two."""
-    return _DIGEST.sub(r"sha256:\1", text) if "sha256:" in text else text
+    return re.sub(r"sha256:([0-9a-f]{12})[0-9a-f]+$", r"sha256:\1", text) if "sha256:" in text else text
 
 
 def readable(fields: Iterable[Field], kind: str) -> Iterator[str]:

@@ -1,5 +1,5 @@
 """Names and words that other programs have for fields: ExifTool (`exiftool -listx`, 12.57) and exiv2 (0.27.6), where they aren't those of
-`plain_name` and of the standards. Data alone; test_other_names.py compares it with the ExifTool that is there."""
+`plain_name` and of the standards. Data alone; test_choosing.py compares it with the ExifTool that is there."""
 
 # By the directory and the tag, by the DataSet, and by the property or the members of a structure beside each other
 NAMES = """

@@ -16,7 +16,9 @@ import hashlib
 import json
 import zlib
 from functools import partial
-from typing import Any, Callable, Generic, Iterable, Iterator, NamedTuple, Sequence, TypeVar
+from typing import Any, Callable, Generic, Iterable, Iterator, Sequence, TypeVar
+
+from exifnorm._named import NamedTuple
 
 from ..model.records import BlockRecord
 from ..model.columns import Damaged
@@ -342,21 +344,6 @@ class Fields(Once["list[Field] | None"]):
     __slots__ = ()
 
 
-class _KeptFields(Fields):
-    """The fields of a block of a catalogue, by its number in the picture, whose packed fields it
-    keeps together."""
-
-    __slots__ = ("_texts", "_number")
-
-    def __init__(self, texts: Once[list[bytes | None]], number: int) -> None:
-        super().__init__(partial(_unpacked, texts, number))
-        self._texts, self._number = texts, number
-
-    def packed(self) -> bytes | None:
-        """The packed fields."""
-        return self._texts.all()[self._number]
-
-
 def _unpacked(texts: Once[list[bytes | None]], number: int) -> list[Field] | None:
     text = texts.all()[number]
     return unpacked(text) if text else None
@@ -368,12 +355,8 @@ _FIELDS = BlockRecord._fields.index("fields")  # after which only what a catalog
 def with_kept_fields(blocks: Sequence[BlockRecord]) -> list[BlockRecord]:
     """The blocks of a picture of a catalogue, of all its rows in their order, each with its own fields."""
     texts = Once(partial(parted, [block.fields for block in blocks]))
-    return [BlockRecord._make((*block[:_FIELDS], None, block.but_note, _KeptFields(texts, at))) for at, block in enumerate(blocks)]
-
-
-def packed_fields(block: BlockRecord) -> bytes | None:
-    """The packed fields of a block of a catalogue, if it has them. Raises `Damaged`."""
-    return block.fresh.packed() if isinstance(block.fresh, _KeptFields) else block.fields
+    each = [Fields(partial(_unpacked, texts, at)) for at in range(len(blocks))]
+    return [BlockRecord._make((*block[:_FIELDS], None, block.but_note, fields)) for block, fields in zip(blocks, each)]
 
 
 def known_fields(block: BlockRecord) -> list[Field] | None:

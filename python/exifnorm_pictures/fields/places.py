@@ -5,11 +5,13 @@ from __future__ import annotations
 import math
 import re
 from fractions import Fraction
-from typing import Iterable, Iterator, NamedTuple, Sequence
+from typing import Iterable, Iterator, Sequence
+
+from exifnorm._named import NamedTuple
 
 from ..model.xmp_values import Array, Long, LongStructure, Structure, texts_in
 from .field import Field
-from .plain_numbers import degrees, denominators
+from .plain_numbers import degrees, denominators, direction
 
 
 class Place(NamedTuple):
@@ -65,17 +67,6 @@ def signed_degrees(angle: Field, fields: Iterable[Field]) -> Fraction | None:
     letters = [it for it in fields if (it.directory, it.tag) == ("gps", _LETTERS[angle.tag])]
     is_negative = bool(letters) and direction(letters[0]) in ("S", "W")
     return -value if value is not None and is_negative else value
-
-
-def direction(letter: Field) -> str:
-    """The direction of a latitude or of a longitude, N, S, E or W: its first letter, also if it is small or begins a word, as ExifTool has it.
-    Empty if the letter is another one.
-
-    >>> direction(Field("gps", "0003", "ASCII", 5, b"West\\0")), direction(Field("gps", "0003", "ASCII", 2, b"S\\0"))
-    ('W', '')
-    """
-    first = letter.content[:1].decode("latin-1").upper() if isinstance(letter.content, bytes) else ""
-    return first if first in tuple("NS" if letter.tag in ("0001", "0013") else "EW") else ""
 
 
 class Angle(NamedTuple):
@@ -139,7 +130,7 @@ def further_places(fields: Iterable[Field]) -> tuple[list[Place], bool]:
     properties = [it for it in fields if it.directory == "xmp" and isinstance(it.content, tuple)]
     places = [place for it in properties for structure in _structures(it.content) for place in _place_in(structure)]
     left_out = (one for it in properties if it.tag in _PLACES for one in it.content)
-    return list(filter(None, places)), None in places or any(map(_is_long_text, left_out))
+    return list(filter(None, places)), None in places or any(isinstance(it, Long) and not isinstance(it, LongStructure) for it in left_out)
 
 
 def _place_in(structure: Structure) -> list[Place | None]:
@@ -148,10 +139,6 @@ def _place_in(structure: Structure) -> list[Place | None]:
     angles = [_of_xmp(Field("xmp", it, "text", 1, (halves[it],)) if it in halves else None, signs) for it, signs in _HALVES.items()]
     located_ = _located(*angles)
     return [located_ and located_.place] if halves else []
-
-
-def _is_long_text(value: object) -> bool:
-    return isinstance(value, Long) and not isinstance(value, LongStructure)
 
 
 _HALVES = {"GPSLatitude": "NS", "GPSLongitude": "EW"}

@@ -6,13 +6,17 @@ Each function takes a field, and returns None if it has no plain form.
 from __future__ import annotations
 
 import re
-from fractions import Fraction
-from typing import Any, Callable
+from typing import TYPE_CHECKING, Any, Callable, Union
 
 from ..model.xmp_values import Long
 from .field import Field
 from .listing import kept_value
 from .plain_texts import text_of
+
+if TYPE_CHECKING:
+    from fractions import Fraction
+
+    Number = Union[Fraction, float]
 
 Rule = Callable[[Field], "str | None"]
 
@@ -27,6 +31,8 @@ def fractions(field: Field) -> list[Fraction | None] | None:
     >>> fractions(Field("exif", "a432", "RATIONAL", 2, ((10, 80), (1, 0)))), fractions(Field("main", "0112", "SHORT", 1, (6,)))
     ([Fraction(1, 8), None], [Fraction(6, 1)])
     """
+    from fractions import Fraction  # which takes long to import
+
     if field.type not in INTEGERS and field.type not in RATIOS:
         return None
     values: Any = kept_value(field)
@@ -43,7 +49,7 @@ def integer(field: Field) -> int | None:
     return int(value[0]) if field.type in INTEGERS and not isinstance(value, Long) and len(value) == 1 else None
 
 
-def decimal(number: Fraction, places: int = 4) -> str:
+def decimal(number: Number, places: int = 4) -> str:
     """A number with so many decimal places at most."""
     text = f"{float(number):.{places}f}"
     text = text.rstrip("0").rstrip(".") if "." in text else text
@@ -71,17 +77,18 @@ def with_unit(unit: str, places: int = 4) -> Rule:
 def seconds(time: Fraction) -> str:
     """An exposure time.
 
+    >>> from fractions import Fraction
     >>> seconds(Fraction(10, 1250)), seconds(Fraction(10, 13)), seconds(Fraction(30))
     ('1/125 s', '0.77 s', '30 s')
     """
-    return f"1/{round(1 / time)} s" if 0 < time < Fraction(1, 4) else f"{decimal(time, 2)} s"
+    return f"1/{round(1 / time)} s" if 0 < 4 * time < 1 else f"{decimal(time, 2)} s"
 
 
 exposure_time = of_number(seconds)
 aperture_number = of_number(lambda one: f"f/{decimal(one, 1)}")
 # In the units of APEX (CIPA DC-008, annex C): the f-number is the root of two to this power, and the seconds are two to the power of minus it
 aperture_value = of_number(lambda one: f"f/{2 ** (float(one) / 2):.1f}" if -20 < one < 40 else None)
-shutter_speed = of_number(lambda one: seconds(Fraction(2.0 ** -float(one)).limit_denominator(1000000)) if -20 < one < 30 else None)
+shutter_speed = of_number(lambda one: seconds(one.from_float(2.0 ** -float(one)).limit_denominator(1000000)) if -20 < one < 30 else None)
 exposure_value = of_number(lambda one: f"{'+' if one > 0 else ''}{decimal(one, 2)} EV")  # a correction of the exposure
 
 
@@ -98,13 +105,24 @@ def denominators(field: Field) -> list[int]:
 def degrees(field: Field) -> Fraction | None:
     """An angle of degrees, minutes and seconds as degrees."""
     parts = _three(field)
-    return sum((one / Fraction(60) ** place for place, one in enumerate(parts)), Fraction(0)) if parts else None
+    return parts[0] + parts[1] / 60 + parts[2] / 3600 if parts else None
 
 
 def _three(field: Field) -> list[Fraction] | None:
     """The numbers of a field that has three."""
     parts = fractions(field) or []
     return [one for one in parts if one is not None] if len(parts) == 3 and None not in parts else None
+
+
+def direction(letter: Field) -> str:
+    """The direction of a latitude or of a longitude, N, S, E or W: its first letter, also if it is small or begins a word, as ExifTool has it.
+    Empty if the letter is another one.
+
+    >>> direction(Field("gps", "0003", "ASCII", 5, b"West\\0")), direction(Field("gps", "0003", "ASCII", 2, b"S\\0"))
+    ('W', '')
+    """
+    first = letter.content[:1].decode("latin-1").upper() if isinstance(letter.content, bytes) else ""
+    return first if first in tuple("NS" if letter.tag in ("0001", "0013") else "EW") else ""
 
 
 def angle(field: Field) -> str | None:
@@ -117,7 +135,7 @@ def angle(field: Field) -> str | None:
     if value is None:
         return None
     hundredths = round(value * 360000)
-    return f"{hundredths // 360000}°{hundredths // 6000 % 60:02}'{decimal(Fraction(hundredths % 6000, 100), 2)}\""
+    return f"{hundredths // 360000}°{hundredths // 6000 % 60:02}'{decimal(hundredths % 6000 / 100, 2)}\""
 
 
 def clock(field: Field) -> str | None:
@@ -141,7 +159,7 @@ def lens(field: Field) -> str | None:
     return f"{length} mm" + ("" if opening in ("?", "0") else f" f/{opening}")
 
 
-_DATE = re.compile(r"(\d{4})[:-](\d\d)[:-](\d\d)(?:[ T](\d\d):(\d\d)(?::(\d\d(?:\.\d+)?))?)?([+-]\d\d:\d\d|Z)?\Z")
+_DATE = r"(\d{4})[:-](\d\d)[:-](\d\d)(?:[ T](\d\d):(\d\d)(?::(\d\d(?:\.\d+)?))?)?([+-]\d\d:\d\d|Z)?\Z"
 
 
 def date(field: Field) -> str | None:
@@ -155,7 +173,7 @@ def date(field: Field) -> str | None:
         return None
     if not text.strip(" :0"):
         return UNKNOWN
-    match = _DATE.match(text.strip(" \0"))
+    match = re.match(_DATE, text.strip(" \0"))
     if match is None:
         return None
     day = "-".join(match.group(1, 2, 3))

@@ -12,8 +12,7 @@ from ..model.xmp_values import Literal
 from . import plain_numbers as numbers
 from .field import Field
 from .listing import DATASET_DATES, DATASET_NUMBERS, DATASET_TIMES, OCTETS, exact, is_comment, kept_value, marked_text, shortened
-from .plain_numbers import Rule, decimal, degrees, fractions, with_unit
-from .places import direction
+from .plain_numbers import direction
 from .plain_texts import EMPTY, guessed, plain_comment, plain_xmp, text_of
 
 # Words for numbers: TIFF 6.0 and CIPA DC-008 (Exif 2.32), 4.6
@@ -74,16 +73,16 @@ def _flash(field: Field) -> str | None:
     return NO_FLASH if bits & 0x20 else ", ".join(filter(None, (words[bits >> bit & mask] for bit, mask, words in FLASH)))
 
 
-def _table(words: dict[str, str]) -> Rule:
+def _table(words: dict[str, str]) -> numbers.Rule:
     return lambda it: words.get(str(numbers.integer(it)))
 
 
-def _byte(*words: str) -> Rule:
+def _byte(*words: str) -> numbers.Rule:
     known = {bytes([number]): word for number, word in enumerate(words)}
     return lambda it: known.get(it.content) if isinstance(it.content, bytes) else None
 
 
-_EXIF: dict[str, Rule] = {
+_EXIF: dict[str, numbers.Rule] = {
     **{key: _table(words) for key, words in WORDS.items()},
     **dict.fromkeys(("0132", "9003", "9004"), numbers.date),
     **dict.fromkeys(("9202", "9205"), numbers.aperture_value),
@@ -91,31 +90,31 @@ _EXIF: dict[str, Rule] = {
     "829d": numbers.aperture_number,
     "9201": numbers.shutter_speed,
     "9204": numbers.exposure_value,
-    "920a": with_unit(" mm", 1),
-    "a405": with_unit(" mm"),
-    "9206": with_unit(" m", 2),
-    "9203": with_unit(" EV", 2),
+    "920a": numbers.with_unit(" mm", 1),
+    "a405": numbers.with_unit(" mm"),
+    "9206": numbers.with_unit(" m", 2),
+    "9203": numbers.with_unit(" EV", 2),
     "9209": _flash,
     "a432": numbers.lens,
     "9286": plain_comment,
     "9000": numbers.version,
     "a000": numbers.version,
 }
-_GPS: dict[str, Rule] = {
+_GPS: dict[str, numbers.Rule] = {
     **dict.fromkeys(("0002", "0004", "0014", "0016"), numbers.angle),
-    **dict.fromkeys(("000f", "0011", "0018"), with_unit("°", 2)),
+    **dict.fromkeys(("000f", "0011", "0018"), numbers.with_unit("°", 2)),
     **dict.fromkeys(("001b", "001c"), plain_comment),
     **dict.fromkeys(("0001", "0013", "0003", "0015"), lambda it: DIRECTIONS.get(direction(it))),
     **dict.fromkeys(("000c", "0019"), lambda it: UNITS.get(text_of(it) or "")),
     "0000": numbers.dotted,
     "0005": _byte(*ALTITUDES),
-    "0006": with_unit(" m", 1),
+    "0006": numbers.with_unit(" m", 1),
     "0007": numbers.clock,
-    "000d": with_unit("", 2),
+    "000d": numbers.with_unit("", 2),
     "001d": numbers.date,
-    "001f": with_unit(" m", 1),
+    "001f": numbers.with_unit(" m", 1),
 }
-_IIM: dict[str, Rule] = {
+_IIM: dict[str, numbers.Rule] = {
     **dict.fromkeys(DATASET_DATES, numbers.iptc_date),
     **dict.fromkeys(DATASET_TIMES, numbers.iptc_time),
     **dict.fromkeys(DATASET_NUMBERS, numbers.iptc_number),
@@ -187,9 +186,9 @@ def _without_words(field: Field) -> str:
         text = exact(field)
         digest = text.rpartition("sha256:")[2][:8]
         return f"{field.count:,} bytes (SHA-256 {digest}..)" if "sha256:" in text else text
-    ratios = fractions(field)
+    ratios = numbers.fractions(field)
     if ratios and field.type in numbers.RATIOS:
-        return ", ".join(numbers.UNKNOWN if one is None else decimal(one) for one in ratios)
+        return ", ".join(numbers.UNKNOWN if one is None else numbers.decimal(one) for one in ratios)
     return shortened(exact(field))
 
 
@@ -209,7 +208,7 @@ def position(fields: dict[str, Field]) -> str | None:
     for letter, angle in _HALVES:
         if letter not in fields or angle not in fields:
             return None
-        value, name = degrees(fields[angle]), direction(fields[letter])
+        value, name = numbers.degrees(fields[angle]), direction(fields[letter])
         if value is None or not name:
             return None
         words.append(f"{float(value):.6f}° {name}")

@@ -308,8 +308,7 @@ class _Reader(Reader):
             self._fail(_AFTER_LABEL.format(label))
         self._takes(*words)
         if words in EXACT:
-            texts = self._texts(words, _ENDS, _VALUE)
-            values = [exact_value(label, text) for text in texts]
+            values = [exact_value(label, text) for text in self._texts(words, _ENDS, _VALUE)]
             return Condition(label, "is", values[0], tuple(values[1:]))
         if self._next.word in _SIGNS:  # as in == and <>, which other programs have
             self._fail(f"expected: a value. The comparisons are {_SIGNS_SHOWN}; put a value that begins like that in quotes")

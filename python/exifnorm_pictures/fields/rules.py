@@ -101,8 +101,7 @@ def _lies_in(path: str, folders: Iterable[str]) -> bool:
     names = path.split("/")[:-1]
     for folder in folders:
         parts = folder.strip("/").split("/")
-        starts = range(1) if len(parts) > 1 or folder.startswith("/") else range(len(names))
-        for start in starts:
+        for start in range(1 if len(parts) > 1 or folder.startswith("/") else len(names)):
             if len(names) >= start + len(parts) and all(map(fnmatch.fnmatchcase, names[start:], parts)):
                 return True
     return False

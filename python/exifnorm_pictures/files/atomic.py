@@ -13,11 +13,13 @@ import re
 import shutil
 import stat
 import zlib
-from typing import AnyStr, BinaryIO, Callable, Iterable, Iterator, NamedTuple, Pattern, Sequence
+from typing import AnyStr, BinaryIO, Callable, Iterable, Iterator, Pattern, Sequence
+
+from exifnorm._named import NamedTuple
 
 from ..model.errors import Failure
 from ..model.texts import reason, shown_path
-from . import copying, opening, signals
+from . import opening, signals
 
 # Who may read and write a file that is made: nobody who may not do so with what it was made from, or with what it replaces.
 #
@@ -125,7 +127,7 @@ def copy_new(source: bytes, out: bytes, like: bytes, check: Callable[[bytes], No
 
     def write(file: BinaryIO) -> None:
         with opening.reading(source) as given:
-            copying.copy(given.fileno(), file.fileno())
+            opening.copy(given.fileno(), file.fileno())
         check(b"/proc/%d/fd/%d" % (os.getpid(), file.fileno()))
         give(file.fileno(), allowed)
         os.utime(file.fileno(), ns=(times.st_atime_ns, times.st_mtime_ns))

@@ -21,7 +21,6 @@ from typing import Any, Iterator, Sequence
 
 from ..model.texts import reason, shown_path
 from . import atomic, opening, signals
-from .atomic import NotReplaced, locked, sweep
 
 _LONGEST = 64_000_000  # bytes of a list of names
 _AT_ONCE = 1000  # files that are removed
@@ -93,12 +92,12 @@ def replaced(out: bytes, mark: str, sources: Sequence[str]) -> Iterator[NewFolde
     try:
         try:
             before = _rights_of_earlier(there, mark)
-            sweep(beside, _NAME, lambda entry: _remove_dead(entry.path, mark))
+            atomic.sweep(beside, _NAME, lambda entry: _remove_dead(entry.path, mark))
             while lock < 0 or not os.fstat(lock).st_nlink:
                 with signals.signals_held():  # a signal before the new folder has its name here would leave it
                     room = tempfile.mkdtemp(prefix=_PREFIX, suffix=_SUFFIX, dir=beside)
                 with contextlib.suppress(FileNotFoundError):  # another run took it for that of a killed run, before its list was locked
-                    lock = locked(os.open(os.path.join(room, os.fsencode(mark)), os.O_RDWR | os.O_CREAT, 0o666))
+                    lock = atomic.locked(os.open(os.path.join(room, os.fsencode(mark)), os.O_RDWR | os.O_CREAT, 0o666))
             folder = NewFolder(room, there, before and before[1], sources)
             yield folder
             folder.write(mark, _FIRST + "".join(f"{line}\n" for line in folder.lines).encode())
@@ -106,7 +105,7 @@ def replaced(out: bytes, mark: str, sources: Sequence[str]) -> Iterator[NewFolde
             _rights_of_earlier(there, mark)  # something may have been put there meanwhile
             _put(room, there)
         except OSError as error:
-            raise NotReplaced(reason(error)) from None
+            raise atomic.NotReplaced(reason(error)) from None
     finally:
         with signals.signals_held():
             if room:
@@ -158,7 +157,7 @@ def _rights_of_earlier(there: bytes, mark: str) -> tuple[atomic.Rights, atomic.R
     except FileNotFoundError:
         return None
     if not stat.S_ISDIR(now.st_mode):
-        raise NotReplaced("it is there, and is no folder")
+        raise atomic.NotReplaced("it is there, and is no folder")
     with os.scandir(there) as entries:
         names = {it.name for it in entries if not (_PICTURE.fullmatch(os.fsdecode(it.name)) and it.is_file(follow_symlinks=False))}
     if not names:  # small pictures alone are no report, and nothing else is lost with them
@@ -170,13 +169,13 @@ def _rights_of_earlier(there: bytes, mark: str) -> tuple[atomic.Rights, atomic.R
     except OSError:
         octets = b""
     if not octets.startswith(_FIRST):
-        raise NotReplaced(f"it is a folder with other files, such as {shown_path(min(names))}")
+        raise atomic.NotReplaced(f"it is a folder with other files, such as {shown_path(min(names))}")
     if len(octets) > _LONGEST:
-        raise NotReplaced(f"{mark}, which lists the pages of the earlier report, has more than {_LONGEST:,} bytes")
+        raise atomic.NotReplaced(f"{mark}, which lists the pages of the earlier report, has more than {_LONGEST:,} bytes")
     known = {name: line[:_DIGEST] for line in io.BytesIO(octets) if (name := line[_DIGEST:].rstrip(b"\n")) in names}
     for name in sorted(names - {os.fsencode(mark)}):
         if not _is_as_written(os.path.join(there, name), known.get(name)):
-            raise NotReplaced(
+            raise atomic.NotReplaced(
                 f"the earlier report has files that are none of its pages, or not as it wrote them, such as {shown_path(name)}"
             )
     return atomic.rights_of(there), atomic.rights_of(listed)

@@ -9,9 +9,18 @@ from __future__ import annotations
 import contextlib
 import os
 import time
-from typing import Iterator, Protocol
 
 from ..model.budgets import PROGRAM_SECONDS
+
+TYPE_CHECKING = False  # that of `typing`, which takes long to import
+if TYPE_CHECKING:
+    from typing import Iterator, Protocol
+
+    class Closes(Protocol):
+        """What is closed at the end of a session."""
+
+        def close(self) -> None:
+            """Ends it."""
 
 
 _LEAST = 0.001  # seconds of a clock that a call has if the earlier ones took all: a program that answers nothing then was too slow
@@ -20,13 +29,6 @@ _LEAST = 0.001  # seconds of a clock that a call has if the earlier ones took al
 def processors() -> int:
     """The number of processors that this process may use, or, where a system doesn't tell, all."""
     return len(os.sched_getaffinity(0)) if hasattr(os, "sched_getaffinity") else os.cpu_count() or 1
-
-
-class Closes(Protocol):
-    """What is closed at the end of a session."""
-
-    def close(self) -> None:
-        """Ends it."""
 
 
 class Session:

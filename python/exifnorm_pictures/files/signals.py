@@ -6,11 +6,13 @@ import contextlib
 import os
 import signal
 import sys
-from types import FrameType
-from typing import IO, Iterator
 
 from ..model.errors import Failure
-from ..model.texts import safe
+
+TYPE_CHECKING = False  # that of `typing`, which takes long to import
+if TYPE_CHECKING:
+    from types import FrameType
+    from typing import IO, Iterator
 
 SIGNALS = tuple(getattr(signal, it) for it in ("SIGTERM", "SIGHUP") if hasattr(signal, it))
 _HEEDED = (*SIGNALS, signal.SIGINT)
@@ -146,6 +148,8 @@ def trace(error: BaseException) -> None:
 
 def say(text: str) -> None:
     """Writes a line to standard error, as far as that can be written to."""
+    from ..model.texts import safe  # which a run without a message may not need
+
     try:
         print(safe(text), file=sys.stderr, flush=True)
     except OSError:

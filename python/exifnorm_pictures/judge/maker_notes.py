@@ -93,8 +93,7 @@ def unpacked_reading(octets: bytes) -> NotesReading:
     """A reading from the result of `packed_reading`. Raises `Damaged` for anything else."""
     has(bytes, octets)
     try:
-        opening = zlib.decompressobj()
-        values, warnings = json.loads(opening.decompress(octets, FIELD_BYTES))
+        values, warnings = json.loads(zlib.decompressobj().decompress(octets, FIELD_BYTES))
         if all(isinstance(it, str) for it in (*warnings, *values, *values.values())):
             return NotesReading(dict(values), tuple(warnings))
     except (zlib.error, ValueError, TypeError, AttributeError, RecursionError) as error:

@@ -10,6 +10,7 @@ from ..model.found import NotRead
 from ..model.records import BlockRecord, PictureRecord
 
 
+BEFORE, AFTER = 0, 1  # the two sides
 Made = TypeVar("Made")
 
 

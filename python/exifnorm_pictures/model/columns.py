@@ -4,7 +4,9 @@ A field that is a column is declared as `Annotated[type, "what it is"]`, or with
 """
 
 from operator import itemgetter
-from typing import Any, Callable, Generic, Iterable, NamedTuple, TypeVar, get_args
+from typing import Any, Callable, Generic, Iterable, TypeVar, get_args
+
+from exifnorm._named import NamedTuple
 
 
 class Damaged(Exception):

@@ -2,15 +2,15 @@
 
 from __future__ import annotations
 
-from typing import ClassVar
-
-from .problems import Problem
+TYPE_CHECKING = False  # that of `typing`, which takes long to import
+if TYPE_CHECKING:
+    from .problems import Problem
 
 
 class Failure(Exception):
     """An error whose text is for people. It ends the command. Further arguments are lines below the text."""
 
-    problem: ClassVar[Problem | None] = None  # that a picture has at which it happens, if it ends no command
+    problem: Problem | None = None  # that a picture has at which it happens, if it ends no command
 
     def __str__(self) -> str:
         return str(self.args[0]) if self.args else ""

@@ -4,7 +4,9 @@ from __future__ import annotations
 
 import hashlib
 from collections import Counter
-from typing import Iterable, NamedTuple, Sequence
+from typing import Iterable, Sequence
+
+from exifnorm._named import NamedTuple
 
 from .budgets import BLOCKS, NOT_READ, Budget
 

@@ -4,7 +4,7 @@ from __future__ import annotations
 
 from enum import Flag, auto
 
-from .words import Word
+from .texts import Word
 
 
 class Follows(Flag):

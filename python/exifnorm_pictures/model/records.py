@@ -7,14 +7,15 @@ import hashlib
 import itertools
 import operator
 import os
-from typing import Annotated, Any, NamedTuple, Optional, Sequence
+from typing import Annotated, Any, Optional, Sequence
+
+from exifnorm._named import NamedTuple
 
 from .columns import LONGEST, Columns, Damaged, Is, check
 from .budgets import ROW_BYTES
 from .found import EXIF, KINDS, NAMES, XMP, Blocks, NotRead, cut, not_known
 from .steps import Step, loses, unpacked
-from .texts import Members
-from .words import Word
+from .texts import Members, Word
 
 # The blocks of one kind in one picture, as two pictures are compared by them.
 

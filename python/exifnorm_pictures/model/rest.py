@@ -81,8 +81,7 @@ def changes(before: str | None, after: str | None) -> list[str]:
         differ &= kept
     fates = {it: "changed" if it in kept else "removed" if it in old else "added" for it in differ}
     fates |= {it: TOO_LARGE for it in kept if old.get(it) == new.get(it) == ""}
-    in_order = sorted(fates.items(), key=lambda it: (it[0] == FURTHER, it))
-    return list(map(" ".join, in_order))
+    return list(map(" ".join, sorted(fates.items(), key=lambda it: (it[0] == FURTHER, it))))
 
 
 def is_by_programs(name: str) -> bool:

@@ -3,7 +3,10 @@
 from __future__ import annotations
 
 import json
-from typing import NamedTuple, Sequence
+from collections import Counter
+from typing import Sequence
+
+from exifnorm._named import NamedTuple
 
 from .columns import Damaged
 
@@ -38,10 +41,8 @@ def lost_fields(steps: Sequence[Step]) -> frozenset[str]:
 
 def words(steps: Sequence[Step]) -> str:
     """Some steps for people: `entries sorted, the missing end of a directory added`."""
-    counts: dict[str, int] = {}
-    for step in steps:
-        counts[step.what] = counts.get(step.what, 0) + 1
-    return ", ".join(what + (f" ({count} times)" if count > 1 else "") for what, count in counts.items())
+    counts = Counter(step.what for step in steps)
+    return ", ".join(what + f" ({count} times)" * (count > 1) for what, count in counts.items())
 
 
 def packed(steps: Sequence[Step]) -> str:

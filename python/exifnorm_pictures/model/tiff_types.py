@@ -5,7 +5,8 @@ The package exifnorm, which is installed without this one too, has a table of it
 
 from __future__ import annotations
 
-from typing import NamedTuple
+
+from exifnorm._named import NamedTuple
 
 HEADS = (b"II*\0", b"MM\0*")  # how a file begins that isn't a BigTIFF, and a block
 SHORT, LONG, SSHORT, SLONG, IFD = 3, 4, 8, 9, 13

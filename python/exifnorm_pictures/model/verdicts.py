@@ -7,7 +7,9 @@ from __future__ import annotations
 
 import functools
 from collections import Counter
-from typing import Iterable, Mapping, NamedTuple, Sequence
+from typing import Iterable, Mapping, Sequence
+
+from exifnorm._named import NamedTuple
 
 from .found import EXIF, IPTC, NAMES, XMP, NotRead, cut, damage
 from .texts import Result
@@ -64,8 +66,7 @@ def left_open(parts: Iterable[NotRead], other: Iterable[NotRead]) -> list[str]:
     """
     first, second = Counter(parts), Counter(other)
     differ = (first - second) + (second - first)
-    unknown = [it for it in first + second if not it.digest]
-    return sorted({it.what for it in [*differ, *unknown]})
+    return sorted({it.what for it in (first + second) if it in differ or not it.digest})
 
 
 _IN_SENTENCE = (  # in the order of the clauses

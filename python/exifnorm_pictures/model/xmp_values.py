@@ -4,7 +4,9 @@ from __future__ import annotations
 
 import re
 from operator import itemgetter
-from typing import Any, Iterator, NamedTuple, Sequence, Union
+from typing import Any, Iterator, Sequence, Union
+
+from exifnorm._named import NamedTuple
 
 from .texts import escaped, quoted
 

@@ -109,8 +109,8 @@ class Layout:
         return None
 
 
-def hexadecimal(block: bytes, place: int, around: int = 2) -> list[str]:
-    """The bytes around an offset, sixteen in a line, with a mark below it.
+def hexadecimal(block: bytes, place: int) -> list[str]:
+    """The bytes around an offset, sixteen in a line, two lines before and after, and a mark below it.
 
     >>> for line in hexadecimal(b"MM\\0*\\0\\0\\0\\x08", 4): print(line)
     00000000  4d 4d 00 2a 00 00 00 08                           MM.*....
@@ -118,7 +118,7 @@ def hexadecimal(block: bytes, place: int, around: int = 2) -> list[str]:
     """
     lines = []
     row = min(place, max(len(block) - 1, 0)) // 16
-    for index in range(max(row - around, 0), min(row + around + 1, (len(block) + 15) // 16)):
+    for index in range(max(row - 2, 0), min(row + 3, (len(block) + 15) // 16)):
         octets = block[16 * index : 16 * index + 16]
         text = "".join(chr(it) if 32 <= it < 127 else "." for it in octets)
         lines.append(f"{16 * index:08x}  {octets.hex(' '):<48}  {text}")
@@ -138,46 +138,47 @@ class Explanation:
 
     kind: str
     judgement: BlockRecord
-    cause: Cause | None = None
+    words: tuple[str, str] | None = None  # the fault in a sentence, and what helps
+    cause: Cause | None = None  # what more is known of it
     here: list[str] = field(default_factory=list)  # the parts at the offset
     octets: list[str] = field(default_factory=list)
     is_without_remedy: bool = False  # of this file: each step of `mend` was tried
 
     @property
     def _remedy(self) -> str:
-        return NO_REMEDY if self.is_without_remedy or self.cause is None else self.cause.remedy
-
-    def _here(self) -> list[str]:
-        """The parts at the offset, or for a block of another kind what is wrong, and the remedy. One that isn't `mend` may help all the same."""
-        has_failed = self.is_without_remedy and self.cause is None and "mend`" in "".join(self.here[-1:])
-        return [*self.here[:-1], f"Remedy: {NO_REMEDY}"] if has_failed else self.here
+        """What helps. A remedy that isn't `mend` may help a packet all the same."""
+        remedy = self.words[1] if self.words else ""
+        has_failed = self.is_without_remedy and (self.cause or "mend`" in remedy)
+        return NO_REMEDY if has_failed else remedy
 
     def lines(self) -> list[str]:
         """The explanation as text."""
-        if self.cause is None:
-            *here, remedy = self._here() or [""]
-            octets = [f"    {it}" for it in self.octets]
-            return [f"{self.kind}: {self.judgement.line}", *(f"  {it}" for it in here), *octets, *[f"  {remedy}"] * bool(remedy)]
-        lines = [f"{self.kind}: {self.judgement.line}", f"  {self.cause.sentence} {self.cause.meaning}"]
-        lines += [f"  {it}" for it in self.here]
-        lines += [f"    {it}" for it in self.octets]
-        if self.cause.writers:
-            lines.append("  Written by: " + "; ".join(f"{who} ({count})" for who, count in self.cause.writers) + ".")
-        lines += [f"  Other readers: {self.cause.readers}", f"  Remedy: {self._remedy}"]
-        lines += [] if self.is_without_remedy else [f"  Cost: {self.cause.cost}"]
+        lines = [f"{self.kind}: {self.judgement.line}"]
+        if self.words is None:
+            return lines
+        lines.append(f"  {self.words[0]} {self.cause.meaning if self.cause else ''}".rstrip())
+        lines += [*(f"  {it}" for it in self.here), *(f"    {it}" for it in self.octets)]
+        if self.cause:
+            writers = "; ".join(f"{who} ({count})" for who, count in self.cause.writers)
+            lines += [f"  Written by: {writers}."] * bool(writers)
+            lines.append(f"  Other readers: {self.cause.readers}")
+        lines.append(f"  Remedy: {self._remedy}")
+        if self.cause and not self.is_without_remedy:
+            lines.append(f"  Cost: {self.cause.cost}")
         return lines
 
     def members(self) -> Members:
-        """The explanation as a JSON object."""
-        known: Members = {"kind": self.kind, "status": self.judgement.status, "cause": self.judgement.cause, "offset": self.judgement.place}
-        if self.cause is None and self.here:
-            known.update(sentence=self.here[0], remedy=self._here()[-1].replace("Remedy: ", "", 1), here=self.here[1:-1], bytes=self.octets)
-        if self.cause is not None:
-            known.update(sentence=self.cause.sentence, meaning=self.cause.meaning, here=self.here, bytes=self.octets)
-            known.update(
-                writers=[list(it) for it in self.cause.writers], remedy=self._remedy, cost="" if self.is_without_remedy else self.cause.cost
-            )
-        return known
+        """The explanation as members of a JSON object."""
+        cause = self.cause
+        return {
+            "sentence": self.words[0] if self.words else None,
+            "meaning": cause.meaning if cause else None,
+            "here": self.here,
+            "bytes": self.octets,
+            "writers": cause.writers if cause else [],
+            "remedy": self._remedy or None,
+            "cost": None if cause is None else "" if self.is_without_remedy else cause.cost,
+        }
 
 
 def explain(kind: str, block: bytes) -> Explanation:
@@ -185,27 +186,25 @@ def explain(kind: str, block: bytes) -> Explanation:
     if kind == XMP:
         return explain_packet(judge_packet(block), block)
     judgement = judge(kind, block)
+    words = words_of(judgement.cause or "")
     cause = CAUSES.get(judgement.cause or "") if judgement.status == Status.REFUSED else None
     if cause is None or judgement.place is None:
-        words = words_of(judgement.cause or "") if cause is None else None
-        return Explanation(kind, judgement, cause, [words[0], f"Remedy: {words[1]}"] if words else [])
+        return Explanation(kind, judgement, words, cause)
     layout = Layout(block)
     here = _FACTS.get(cause.name, _entry)(layout, cause.name, judgement.place)
-    return Explanation(kind, judgement, cause, here, hexadecimal(layout.block, judgement.place))
+    return Explanation(kind, judgement, words, cause, here, hexadecimal(layout.block, judgement.place))
 
 
 def explain_packet(judgement: BlockRecord, packet: bytes) -> Explanation:
     """Explains an XMP packet that was judged; one that was read needs no explanation."""
     words = words_of(judgement.cause, XMP) if judgement.cause else None
-    if not words:
-        return Explanation(XMP, judgement)
     fault = _fault_of(packet) if judgement.cause in _AT_A_PLACE else None
     if fault is None:
-        return Explanation(XMP, judgement, here=[words[0], f"Remedy: {words[1]}"])
+        return Explanation(XMP, judgement, words)
     what = OF_PACKETS[fault.cause][0].rpartition("not well-formed: ")[2]
     line = packet.count(b"\n", 0, fault.offset) + 1
-    here = [words[0], f"At {fault.offset}, in line {line}: {what[0].lower()}{what[1:]}", f"Remedy: {words[1]}"]
-    return Explanation(XMP, judgement, here=here, octets=hexadecimal(packet, fault.offset))
+    here = [f"At {fault.offset}, in line {line}: {what[0].lower()}{what[1:]}"]
+    return Explanation(XMP, judgement, words, here=here, octets=hexadecimal(packet, fault.offset))
 
 
 _AT_A_PLACE = ("NotWellFormed", "NotText")  # causes of a text that the library refuses at its first fault

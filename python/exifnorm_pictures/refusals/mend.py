@@ -17,15 +17,14 @@ from typing import BinaryIO, Callable, NamedTuple, Sequence
 from ..extract import coded_picture, programs
 from ..extract.extraction import blocks_of_file
 from ..extract.formats.streams import File, digests
-from ..files import atomic, copying, opening
+from ..files import atomic, opening
 from ..files.session import Session
 from ..judge import repairs
 from ..judge.judge import judge_all
 from ..model.budgets import MENDED_BYTES, Budget, TooMuch
 from ..model.found import EXIF, REST, SIX, Blocks, Broken, FoundBlock, cut, damage
 from ..model.steps import Step, loses
-from ..model.texts import ending_of, reason, shown_path
-from ..model.words import Word
+from ..model.texts import Word, ending_of, reason, shown_path
 
 # A picture in which repaired Exif blocks replace the refused ones. All other bytes of the file stay as they are.
 
@@ -73,11 +72,11 @@ def write(picture: BinaryIO, replaced: Sequence[Change], copy: BinaryIO) -> None
     source, target = picture.fileno(), copy.fileno()
     begin = at = 0
     for change in replaced:
-        copying.copy_range(source, begin, change.at, target, at)
+        opening.copy_range(source, begin, change.at, target, at)
         at += change.at - begin
-        at += copying.put(target, change.new, at)
+        at += opening.put(target, change.new, at)
         begin = change.at + len(change.old)
-    copying.copy_range(source, begin, os.fstat(source).st_size, target, at)
+    opening.copy_range(source, begin, os.fstat(source).st_size, target, at)
 
 
 def _change(picture: BinaryIO, wrap: Callable[[bytes], bytes], old: bytes, new: bytes) -> Change | None:
@@ -291,7 +290,7 @@ Attempt = tuple[Remedy, str, list[str], list[str]]
 
 def _copy(source: bytes | str, name: str) -> None:
     with opening.reading(source) as given, open(name, "xb") as copy:
-        copying.copy(given.fileno(), copy.fileno())
+        opening.copy(given.fileno(), copy.fileno())
 
 
 def _others(name: str, taken: Blocks) -> dict[str, str]:

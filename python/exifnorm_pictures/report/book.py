@@ -3,7 +3,7 @@
 from __future__ import annotations
 
 from dataclasses import dataclass, field
-from typing import Any, Callable, Iterator, NamedTuple
+from typing import Any, Callable, Iterator
 
 from ..catalogue.checking import Checked
 from ..model.errors import WrongUse
@@ -39,13 +39,6 @@ class Section:
     entries: Iterator[Entry]
 
 
-class PageLink(NamedTuple):
-    """A page of a list."""
-
-    name: str
-    label: str
-
-
 @dataclass
 class Written:
     """A list that was written: on the first page, or on pages of its own."""
@@ -53,7 +46,7 @@ class Written:
     section: Section
     number: int = 0  # of what is counted
     entries: int = 0
-    pages: list[PageLink] = field(default_factory=list)
+    pages: list[tuple[str, str]] = field(default_factory=list)  # names and labels
     body: Any = ""
 
 
@@ -133,7 +126,7 @@ class Book:
         section, number = written.section, len(written.pages) + 1
         name = f"{section.key}-{number}.html"
         body = self._rendered(written, page, name)
-        written.pages.append(PageLink(name, _label(section, page, number)))
+        written.pages.append((name, _label(section, page, number)))
         put(name, self._renderer.page(section, number, has_next, body))
 
     def _rendered(self, written: Written, page: list[Entry], name: str) -> Any:
@@ -146,7 +139,7 @@ class Book:
         body = self._renderer.entries(key, page, first)
         written.entries += len(page)
         is_counted = written.section.what in ("group", "rule")
-        written.number += sum(it.is_counted if is_counted else len(it.pictures) for it in page)
+        written.number += sum(it.is_first if is_counted else len(it.pictures) for it in page)
         if key in WITH_PICTURES:
             self._shown += self._marks.shown(path for it in page for path in it.pictures)
             self.done(min(self._shown, self.counts.total))  # the older catalogue may have more
@@ -160,5 +153,5 @@ def _label(section: Section, page: list[Entry], number: int) -> str:
     """What a link to a page says: its number, or the folders that it shows."""
     if section.key != "folders":
         return f"page {number}"
-    first, last = (whole_path(it.data.path) for it in (page[0], page[-1]))
-    return first + " (continued)" * (not page[0].data.is_first) + f" to {last}" * (first != last)
+    first, last = (whole_path(it.data["path"]) for it in (page[0], page[-1]))
+    return first + " (continued)" * (not page[0].is_first) + f" to {last}" * (first != last)

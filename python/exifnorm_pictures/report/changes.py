@@ -8,15 +8,18 @@ from typing import Iterable, Iterator, NamedTuple, Sequence, Union
 
 from ..catalogue.store import Known
 from ..comparison.changed import states as changed
-from ..comparison.changed.edit_groups import KINDS, Group
+from ..comparison.changed.edit_groups import Group
 from ..comparison.changed.edits import Edit, head_of, lists_of, place_of
-from ..comparison.changed.pairs import AFTER, BEFORE, heads_of
-from ..comparison.changed.summary import NOW, MovedFolders, Summary, lacking_of, name_of, sentence
+from ..comparison.changed.pairs import heads_of
+from ..comparison.changed.summary import NOW, Summary, lacking_of, name_of, sentence
 from ..comparison.coded import Coded, sentence_of_coded
 from ..comparison.wording import FieldDifference, Marker, Piece, Pieces, sides, tell_apart
 from ..fields.choosing import lines
+from ..fields.labels import label_of_fields
+from ..judge.sides import AFTER, BEFORE
 from ..model.records import Stamp, is_as_before
-from ..model.texts import Result, escaped, grouped, pictures_in_words
+from ..model.texts import Result, escaped, grouped
+from ..scan.moved import MovedFolders
 from .contents import About, Entry, chunks
 
 _RESULTS = sorted(Result, key=lambda result: result not in (Result.DAMAGED, Result.DAMAGED_DIFFERENT))  # which somebody has to look after
@@ -53,8 +56,24 @@ class Difference(NamedTuple):
     is_other: bool  # whether the picture itself is another one or damaged
     total: int  # of all its pictures
     pictures: list[ChangedPicture]
-    is_first: bool  # False: more pictures with the difference before
     group: int = 0  # of pictures that were edited alike
+
+    @property
+    def words(self) -> list[str]:
+        """What the page says of it."""
+        said = [f"{it};" for it in (self.note, labels_of(self.rows)) if it]
+        return [*map(_said, self.rows), *said, self.result, f"edit:{self.group};"]
+
+
+def _said(row: Row) -> str:
+    sides = ("".join(piece.text for piece in pieces) if pieces else "(none)" for pieces in (row.before, row.after))
+    return f"{', '.join(row.names)}: {row.note or ' -> '.join(sides)};"
+
+
+def labels_of(rows: Sequence[Row]) -> str:
+    """The labels of the fields of some rows, by which people look for them."""
+    labels = label_of_fields()
+    return " ".join(dict.fromkeys(labels[name] for row in rows for name in row.names if name in labels))
 
 
 class ShownGroup(NamedTuple):
@@ -153,9 +172,7 @@ class Changes:
 
     def notes(self) -> list[str]:
         """What was compared of the pictures, and what is left out."""
-        further = self.summary.kinds.further
-        more = [f"More than {KINDS:,} kinds of edit: {pictures_in_words(further)} more, which aren't grouped"] * bool(further)
-        return [*more, *filter(None, [sentence_of_coded(self.coded)]), *self.left_out]
+        return [*self.summary.kinds.notes(), *filter(None, [sentence_of_coded(self.coded)]), *self.left_out]
 
     def entries(self) -> Iterator[Entry]:
         """Each difference with its pictures, by what happened and by their number, damaged ones first; of many pictures so many as a page has."""
@@ -164,13 +181,11 @@ class Changes:
             result = _RESULTS[rank]
             marker = Marker()
             rows = [Row(names, *_marked(marker, before, after), what) for names, before, after, what in all_rows]
-            is_first = True
-            for chunk in chunks(names, len):
+            for number, chunk in enumerate(chunks(names, len)):
                 pictures = [self._picture(result, name, is_other) for name in chunk]
-                difference = Difference(result, note, rows, is_other, count, pictures, is_first, self._group_of.get(kind, 0))
+                difference = Difference(result, note, rows, is_other, count, pictures, self._group_of.get(kind, 0))
                 paths = tuple(it.after or it.before or b"" for it in pictures)
-                yield Entry(difference, paths, 1 + len(rows), is_first, len(text))
-                is_first = False
+                yield Entry(difference, paths, difference.words, 1 + len(rows), not number)
 
     def _picture(self, result: Result, name: bytes, is_other: bool) -> ChangedPicture:
         before, _, place = name.partition(NOW)

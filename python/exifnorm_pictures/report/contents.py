@@ -5,6 +5,7 @@ from __future__ import annotations
 import os.path
 import re
 from dataclasses import dataclass
+from operator import sub
 from typing import Any, Callable, Iterable, Iterator, NamedTuple, Sequence, TypeVar
 from urllib.parse import quote
 
@@ -107,27 +108,38 @@ Made = TypeVar("Made")
 
 
 class Entry(NamedTuple):
-    """Something that a list has: what its template shows, the pictures that it is about, and how many rows it takes."""
+    """Something that a list has: what its template shows, the pictures that it is about, and the texts by which the page is searched."""
 
     data: Any
     pictures: tuple[bytes, ...]
-    rows: int = 1
-    is_counted: bool = True  # False: more pictures of an entry that is counted already
-    size: int = 0  # characters of its texts, if they may be long
+    words: Sequence[str | None] = ()
+    rows: int = 1  # that it takes
+    is_first: bool = True  # False: more pictures of what the entry before is about
+
+    @property
+    def size(self) -> int:
+        """The characters of its texts and names."""
+        return sum(len(it or "") for it in (*self.words, *self.pictures))
+
+
+def _parted(items: Iterable[Made], costs_of: Callable[[Made], Sequence[int]], limits: Sequence[int]) -> Iterator[list[Made]]:
+    """As many items at a time as all of their costs allow, or one."""
+    part: list[Made] = []
+    left = limits
+    for item in items:
+        costs = costs_of(item)
+        left = list(map(sub, left, costs))
+        if part and min(left) < 0:
+            yield part
+            part, left = [], list(map(sub, limits, costs))
+        part.append(item)
+    if part:
+        yield part
 
 
 def chunks(pictures: Iterable[Made], length_of: Callable[[Made], int]) -> Iterator[list[Made]]:
     """As many pictures at a time as a page has; fewer if their names and texts are long."""
-    chunk: list[Made] = []
-    size = 0
-    for picture in pictures:
-        size += length_of(picture)
-        if chunk and (len(chunk) == PAGE or size > CHARACTERS):
-            yield chunk
-            chunk, size = [], length_of(picture)
-        chunk.append(picture)
-    if chunk:
-        yield chunk
+    return _parted(pictures, lambda it: (1, length_of(it)), (PAGE, CHARACTERS))
 
 
 def pages_of(entries: Iterable[Entry]) -> Iterator[list[Entry]]:
@@ -136,17 +148,7 @@ def pages_of(entries: Iterable[Entry]) -> Iterator[list[Entry]]:
     >>> [len(it) for it in pages_of([Entry(0, (b"",) * 150), Entry(0, (b"",) * 50), Entry(0, (b"",))])]
     [2, 1]
     """
-    page: list[Entry] = []
-    pictures = rows = size = 0
-    for entry in entries:
-        more, longer = max(1, len(entry.pictures)), entry.size + sum(map(len, entry.pictures))
-        if page and (pictures + more > PAGE or rows + entry.rows > ROWS or size + longer > CHARACTERS):
-            yield page
-            page, pictures, rows, size = [], 0, 0, 0
-        pictures, rows, size = pictures + more, rows + entry.rows, size + longer
-        page.append(entry)
-    if page:
-        yield page
+    return _parted(entries, lambda it: (max(1, len(it.pictures)), it.rows, it.size), (PAGE, ROWS, CHARACTERS))
 
 
 # Where the name of a picture leads: to its file, or to a page about it on a server.

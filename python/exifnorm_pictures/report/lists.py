@@ -8,44 +8,29 @@ import os.path
 import shlex
 from collections import Counter
 from dataclasses import dataclass, field
-from itertools import groupby
-from typing import Iterator, NamedTuple, Sequence
+from itertools import chain, groupby
+from typing import Iterator, Sequence
 
-from ..catalogue.checking import Broken, Checked
-from ..catalogue.conflicts import Conflict, conflicts
+from ..catalogue.checking import Checked
+from ..catalogue.conflicts import Conflict
 from ..catalogue.store import PICTURE_COLUMNS, Catalogue
-from ..catalogue.texts import PictureTexts, texts_of
+from ..catalogue.texts import texts_of
 from ..comparison.changed.edits import digest
 from ..comparison.changed.states import Equal
 from ..comparison.same import groups
 from ..comparison.same.group import Group, Keep, keeping, sentence_of
 from ..fields.labels import COMMENT, LABEL_WORDS
-from ..fields.rules import Rule
 from ..model.found import STANDARDS, each_kind
-from ..model.records import BlockRecord, PictureRecord, has, has_short, picture_of_row
+from ..model.records import PictureRecord, has, has_short, picture_of_row
 from ..model.problems import NOT_THERE, Problem
 from ..model.texts import grouped, kind_of_part
-from .contents import About, Entry, Refused, chosen, chunks, refused, shortened
+from .contents import About, Entry, chosen, chunks, refused, shortened
 
 # The pictures of a catalogue whose Exif, IPTC and XMP contradict each other, for the report.
 #
 # The texts are those of the catalogue, which keeps all but enormous ones.
 
 _COMPARED = tuple(it for it in LABEL_WORDS if it != COMMENT)
-
-
-class CheckedPicture(NamedTuple):
-    """A picture with metadata in two standards at least, and its differences."""
-
-    path: bytes
-    conflicts: list[Conflict]
-    is_whole: bool  # whether all of its texts were compared
-    has_two: bool = True  # standards, as far as its file goes
-
-    @property
-    def real(self) -> list[Conflict]:
-        """Its contradictions."""
-        return [it for it in self.conflicts if it.is_real]
 
 
 @dataclass
@@ -58,32 +43,21 @@ class Contradictions:
     unread: int = 0  # of which a text or a block was not compared
     labels: "Counter[str]" = field(default_factory=Counter)
 
-    def add(self, checked: CheckedPicture) -> None:
-        """Counts a picture."""
-        real = checked.real
-        self.pictures += checked.has_two
-        self.real += bool(real)
-        self.minor += bool(checked.conflicts) and not real
-        self.unread += not checked.is_whole
-        self.labels.update([one.label for one in real])
-
-
-def checked(catalogue: Catalogue, pictures: Iterator[PictureRecord]) -> Iterator[CheckedPicture]:
-    """The pictures with metadata in two standards at least, and those that may have them behind the end of a file that is cut off."""
-    for picture in pictures:
-        if picture.problem or sum(octets != "" for octets in picture.octets) < 2:
-            if picture.problem is None and _is_cut(picture):
-                yield CheckedPicture(picture.path, [], False, False)
-            continue
+    def of(self, catalogue: Catalogue, picture: PictureRecord) -> list[Conflict]:
+        """Those of a picture, which are counted. One that is cut off may have metadata in a second standard behind its end."""
+        if picture.problem or picture.octets.count("") > 1:
+            self.unread += picture.problem is None and _is_cut(picture)
+            return []
         blocks = catalogue.blocks_with_fields(picture)
         texts = texts_of(blocks, _COMPARED)
-        yield _checked(picture, [block for block, _ in blocks], texts)
-
-
-def _checked(picture: PictureRecord, blocks: list[BlockRecord], texts: PictureTexts) -> CheckedPicture:
-    known = [one for one in conflicts(texts.texts, texts.located) if not one.is_alike and one.label not in texts.missing]
-    is_whole = not (texts.missing or _is_cut(picture)) and all(one.is_accepted or one.repair for one in blocks)
-    return CheckedPicture(picture.path, known, is_whole)
+        known = texts.conflicts()
+        real = [one for one in known if one.is_real]
+        self.pictures += 1
+        self.real += bool(real)
+        self.minor += bool(known) and not real
+        self.unread += any((texts.missing, _is_cut(picture), not all(one.is_accepted or one.repair for one, _ in blocks)))
+        self.labels.update(one.label for one in real)
+        return real
 
 
 def _is_cut(picture: PictureRecord) -> bool:
@@ -153,20 +127,6 @@ def _counted_word(row: tuple[str, int]) -> tuple[str, int]:
     return row
 
 
-class Contradicting(NamedTuple):
-    """Pictures that contradict themselves in the same texts."""
-
-    rows: list[tuple[str, str, dict[str, str]]]  # a label, what is said of it, and its texts
-    total: int  # of all its pictures
-    pictures: list[bytes]
-    is_first: bool
-
-    @property
-    def labels(self) -> str:
-        """The labels whose texts differ."""
-        return ", ".join(label for label, _, _ in self.rows)
-
-
 # Keywords last: a picture often has others in IPTC than in XMP, and nobody publishes them
 _ORDER = {label: at for at, label in enumerate(LABEL_WORDS) if label != "keywords"}
 
@@ -179,79 +139,48 @@ def contradicting(about: About, counts: Counts) -> Iterator[Entry]:
     """The pictures whose Exif, IPTC and XMP have different texts for one label: those with equal
     texts together, titles and captions first."""
     with contextlib.closing(Equal()) as equal:
-        for picture in checked(about.catalogue, about.catalogue.pictures(about.table())):
-            counts.contradictions.add(picture)
-            real = sorted(picture.real, key=_rank)
-            if real:
+        for picture in about.catalogue.pictures(about.table()):
+            if real := sorted(counts.contradictions.of(about.catalogue, picture), key=_rank):
                 rows = [(it.label, it.detail, texts_by_standard(it)) for it in real]
                 equal.add(json.dumps(rows), picture.path, False, _rank(real[0]))
         for text, count, names in equal.all(by_rank=True):
+            rows = json.loads(text)
+            words = [word for label, detail, texts in rows for word in (label, detail, *texts.values())]
+            labels = ", ".join(label for label, _, _ in rows)
             for number, few in enumerate(chunks(names, len)):
-                one = Contradicting(json.loads(text), count, few, not number)
-                yield Entry(one, tuple(few), len(one.rows), not number, len(text))
-
-
-class Breaking(NamedTuple):
-    """Pictures that break a rule, each with what breaks it."""
-
-    rule: Rule
-    total: int  # of all its pictures
-    pictures: list[tuple[bytes, list[Broken]]]
-    is_first: bool
+                about_few = {"rows": rows, "labels": labels, "total": count, "pictures": few}
+                yield Entry(about_few, tuple(few), words, len(rows), not number)
 
 
 def breaking(rules: Checked) -> Iterator[Entry]:
     """The broken rules, each with its pictures."""
     for number, of_rule in groupby(rules.broken(), lambda broken: broken.number):
+        rule, total = rules.rules[number], rules.pictures_broken(number)
         pictures = ((path, list(all_)) for path, all_ in groupby(of_rule, lambda broken: broken.path))
-        for at, few in enumerate(chunks(pictures, lambda it: len(it[0]) + _length(it[1]))):
-            broken = [one for _, all_ in few for one in all_]
-            one = Breaking(rules.rules[number], rules.pictures_broken(number), few, not at)
-            yield Entry(one, tuple(path for path, _ in few), len(broken), not at, _length(broken))
-
-
-def _length(broken: Sequence[Broken]) -> int:
-    return sum(len(one.text or "") for one in broken)
-
-
-class Same(NamedTuple):
-    """Some pictures of a group with the same metadata."""
-
-    total: int  # of all its pictures
-    sentence: str
-    note: str  # what is known of all its pictures, such as why none may go
-    pictures: list[tuple[bytes, Keep]]
-    is_first: bool
-    may_go: int = 0  # pictures of the group that another one has, and the bytes of their files
-    octets: int = 0
+        for at, few in enumerate(chunks(pictures, lambda it: len(it[0]) + sum(len(one.text or "") for one in it[1]))):
+            paths, of_paths = zip(*few)
+            broken = list(chain(*of_paths))
+            words = [f"line {rule.line}: {rule.text}", *(text for one in broken for text in (one.label, one.text))]
+            yield Entry({"rule": rule, "total": total, "pictures": few}, paths, words, len(broken), not at)
 
 
 def same(about: About, counts: Counts) -> Iterator[Entry]:
     """The groups, the largest first, and which of their pictures may go."""
-    found = groups.Groups(about.catalogue, about.table(), about.look)
-    for group in found.by_meaning(choice=about.choice):
+    for group in groups.Groups(about.catalogue, about.table(), about.look).by_meaning(choice=about.choice):
         keeps = keeping(group, False) if about.look and not about.choice else {}
         yield from _same(group, [keeps.get(it.id, Keep()) for it in group.members])
     counts.unknown = groups.but_for_notes(about.catalogue, only=about.table(), choice=about.choice)
 
 
 def _same(group: Group, keeps: Sequence[Keep]) -> Iterator[Entry]:
-    """A group, with what may be done with each of its pictures."""
+    """A group, with what may be done with each of its pictures, and with all if that is one note."""
     gone = [it.size or 0 for it, one in zip(group.members, keeps) if one.keep is False]
     notes = {it.note() for it in keeps}
-    of_all = (group.count, sentence_of(group), notes.pop() if len(notes) == 1 else "")
-    pictures = zip(group.pictures(), keeps)
-    for number, few in enumerate(chunks(pictures, lambda it: len(it[0]))):
-        one = Same(*of_all, few, not number, len(gone), sum(gone))
-        yield Entry(one, tuple(path for path, _ in few), 1, not number)
-
-
-class Captioned(NamedTuple):
-    """Files with one coded picture and different texts, each with its texts."""
-
-    total: int
-    pictures: list[tuple[bytes, list[str]]]
-    is_first: bool = True
+    sentence, note = sentence_of(group), notes.pop() if len(notes) == 1 else ""
+    of_all = {"total": group.count, "sentence": sentence, "note": note, "may_go": len(gone), "octets": sum(gone)}
+    for number, few in enumerate(chunks(zip(group.pictures(), keeps), lambda it: len(it[0]))):
+        words = [sentence, note, *(keep.note() for _, keep in few)]
+        yield Entry({**of_all, "pictures": few}, tuple(path for path, _ in few), words, 1, not number)
 
 
 _CAPTIONS = ("title", "caption")
@@ -267,10 +196,9 @@ def captioned(about: About) -> Iterator[Entry]:
             pictures.append((it.path, list(map(shortened, texts))))
         if len(different) > 1:
             for number, few in enumerate(chunks(pictures, lambda it: len(it[0]))):
-                size = sum(len(text) for _, texts in few for text in texts)
+                words = [text for _, texts in few for text in texts]
                 paths = tuple(path for path, _ in few)
-                one = Captioned(group.count, few, not number)
-                yield Entry(one, paths, len(few), not number, size)
+                yield Entry({"total": group.count, "pictures": few}, paths, words, len(few), not number)
 
 
 def _captions(about: About, picture: PictureRecord) -> list[str]:
@@ -278,19 +206,12 @@ def _captions(about: About, picture: PictureRecord) -> list[str]:
     return list(dict.fromkeys(it.line for it in found if it.label in _CAPTIONS))
 
 
-class Mendable(NamedTuple):
-    """A refused block, and the command that writes a copy whose block is accepted."""
-
-    block: Refused
-    is_first: bool  # of its cause
-    command: str
-
-
 def refusals(about: About, counts: Counts) -> Iterator[Entry]:
-    """The refused blocks by cause, the most frequent first."""
+    """The refused blocks by cause, the most frequent first, each with the command that mends a copy."""
     for cause, _ in sorted(counts.causes.items(), key=lambda it: (-it[1], it[0])):
         for number, block in enumerate(refused(about, cause)):
-            yield Entry(Mendable(block, not number, mending(block.path)), (block.path,))
+            about_block = {"block": block, "command": mending(block.path)}
+            yield Entry(about_block, (block.path,), [block.name, block.refusal], 1, not number)
 
 
 def mending(path: bytes) -> str:
@@ -315,17 +236,10 @@ def _quoted(path: bytes) -> str:
     return "$'" + "".join(chr(byte) if 32 <= byte < 127 and byte not in b"'\\" else f"\\x{byte:02x}" for byte in path) + "'"
 
 
-class Unread(NamedTuple):
-    """A picture that is damaged or wasn't wholly read, and where."""
-
-    path: bytes
-    parts: list[str]
-
-
 def damaged(about: About) -> Iterator[Entry]:
     """The pictures that are cut off or damaged."""
     rows = about.catalogue.rows(f"SELECT path, damage FROM pictures WHERE damage != ''{_and_chosen(about)} ORDER BY path", (), _two_words)
-    yield from (Entry(Unread(path, [damage]), (path,), 1, True, len(damage)) for path, damage in rows)
+    yield from (Entry({"path": path, "parts": [damage]}, (path,), [damage]) for path, damage in rows)
 
 
 def unread(about: About) -> Iterator[Entry]:
@@ -334,7 +248,7 @@ def unread(about: About) -> Iterator[Entry]:
     query = f"SELECT {PICTURE_COLUMNS} FROM pictures WHERE not_read IS NOT '' AND {chosen(about)} ORDER BY path"
     for picture in catalogue.rows(query, (), picture_of_row):
         parts = each_kind(part.what for part in catalogue.not_read_of(picture))
-        yield Entry(Unread(picture.path, parts), (picture.path,), len(parts), True, sum(map(len, parts)))
+        yield Entry({"path": picture.path, "parts": parts}, (picture.path,), parts, len(parts))
 
 
 def problems(about: About) -> Iterator[Entry]:
@@ -342,7 +256,7 @@ def problems(about: About) -> Iterator[Entry]:
     where = f"ifnull(problem, '') != ''{_and_chosen(about)}"
     query = f"SELECT {PICTURE_COLUMNS} FROM pictures WHERE {where} ORDER BY problem = '{Problem.NO_PICTURE}', {_IS_GONE}, path"
     for picture in about.catalogue.rows(query, (), picture_of_row):
-        yield Entry(picture._replace(maker_notes="", sidecars=""), (picture.path,))
+        yield Entry(picture._replace(maker_notes="", sidecars=""), (picture.path,), [picture.problem, picture.detail])
 
 
 _IS_GONE = f"ifnull(problem, '') IN {tuple(map(str, NOT_THERE))}"
@@ -352,24 +266,16 @@ def _and_chosen(about: About) -> str:
     return f" AND path IN {about.table()}" if about.table() else ""
 
 
-class Folder(NamedTuple):
-    """Some pictures of a folder."""
-
-    path: bytes
-    pictures: list[tuple[bytes, str]]  # each with its state
-    is_first: bool
-
-
 def folders(about: About) -> Iterator[Entry]:
     """Each folder with its pictures, in the order of their paths."""
     catalogue = about.catalogue
     catalogue.base.create_function("folder_of", 1, os.path.dirname, deterministic=True)
     is_shown = f"NOT {_IS_GONE} AND problem IS NOT '{Problem.NO_PICTURE}'{_and_chosen(about)}"
     query = f"SELECT path, {_STATE} FROM pictures WHERE {is_shown} ORDER BY folder_of(path), path"
-    rows = catalogue.rows(query, (), _two_words)
-    for folder, of_folder in groupby(rows, lambda row: os.path.dirname(row[0])):
+    for folder, of_folder in groupby(catalogue.rows(query, (), _two_words), lambda row: os.path.dirname(row[0])):
         for number, pictures in enumerate(chunks(of_folder, lambda row: len(row[0]))):
-            yield Entry(Folder(folder, pictures, not number), tuple(path for path, _ in pictures))
+            paths = tuple(path for path, _ in pictures)
+            yield Entry({"path": folder, "pictures": pictures}, paths, is_first=not number)
 
 
 def _two_words(row: tuple[bytes, str]) -> tuple[bytes, str]:

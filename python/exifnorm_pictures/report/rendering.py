@@ -11,21 +11,20 @@ import sqlite3
 from collections import Counter
 from datetime import datetime
 from pathlib import Path
-from typing import TYPE_CHECKING, Any, Callable, Iterable, Optional, Sequence
+from typing import TYPE_CHECKING, Any, Callable, Iterable, Sequence
 
 from ..catalogue.checking import Checked
 from ..comparison.changed.edits import head_of, steps_of
 from ..comparison.same.groups import of_notes
-from ..fields.labels import label_of_fields
 from ..fields.choosing import of_maker_notes
 from ..model.found import STANDARDS
 from ..model.errors import Failure
 from ..model.problems import COUNTED, NOT_THERE, TEXTS
 from ..model.texts import Result, escaped, in_words, safe, whole_path
 from ..refusals.causes import CAUSES, words_of
-from .changes import ChangedPicture, Changes, Difference, Row
+from .changes import ChangedPicture, Changes, Difference, labels_of
 from .contents import About, Entry, Links, below, unproved
-from .lists import Breaking, Captioned, Contradicting, Counts, Folder, Mendable, Same, Unread, mending_all, texts_by_standard
+from .lists import Counts, mending_all, texts_by_standard
 from .small_pictures import Kept, SmallPictures
 
 if TYPE_CHECKING:
@@ -56,7 +55,7 @@ class SearchIndex:
         name_ = functools.partial(_name, roots=self._roots)
         names = [_changed(one, name_) for one in entry.data.pictures] if isinstance(entry.data, Difference) else map(name_, entry.pictures)
         kind = f"{key}/{entry.data.result}" if isinstance(entry.data, Difference) else key
-        line = json.dumps([place, kind, " ".join(safe(it) for it in _words(entry.data) if it), list(names)])
+        line = json.dumps([place, kind, " ".join(safe(it) for it in entry.words if it), list(names)])
         self._lines.append(line)
         self._length += len(line)
         if self._length > _LENGTH:
@@ -66,8 +65,7 @@ class SearchIndex:
         """Writes what wasn't written yet."""
         if self._lines:
             self.files += 1
-            entries = ",\n".join(self._lines)
-            self._put(name_of(self.files), f"exifnormIndex([\n{entries}\n]);\n")
+            self._put(name_of(self.files), "exifnormIndex([\n" + ",\n".join(self._lines) + "\n]);\n")
             self._lines, self._length = [], 0
 
 
@@ -79,52 +77,6 @@ def _changed(picture: ChangedPicture, name: Callable[[bytes], str]) -> str:
     """The name of a picture, and its new one if it has moved."""
     names = [whole_path(picture.name), *([name(picture.after)] if picture.after else [])]
     return " \N{RIGHTWARDS ARROW} ".join(dict.fromkeys(names))
-
-
-_Words = Callable[[Any], Iterable[Optional[str]]]
-
-
-def _words(data: Any) -> Iterable[str | None]:
-    """What the page says of an entry, besides the names of its pictures."""
-    words = _WORDS.get(type(data))
-    return words(data) if words else [getattr(data, "problem", ""), getattr(data, "detail", "")]  # of a file without an answer
-
-
-def _of_difference(data: Difference) -> list[str]:
-    said = [f"{it};" for it in (data.note, labels_of(data.rows)) if it]
-    return [*map(_row, data.rows), *said, data.result, f"edit:{data.group};"]
-
-
-def _of_contradiction(data: Contradicting) -> list[str]:
-    return [text for label, detail, texts in data.rows for text in (label, detail, *texts.values())]
-
-
-def _of_rule(data: Breaking) -> list[str | None]:
-    broken = [text for _, all_ in data.pictures for one in all_ for text in (one.label, one.text)]
-    return [f"line {data.rule.line}: {data.rule.text}", *broken]
-
-
-_WORDS: dict[type, _Words] = {
-    Difference: _of_difference,
-    Contradicting: _of_contradiction,
-    Breaking: _of_rule,
-    Same: lambda data: [data.sentence, data.note, *(keep.note() for _, keep in data.pictures)],
-    Captioned: lambda data: [text for _, texts in data.pictures for text in texts],
-    Mendable: lambda data: [data.block.name, data.block.refusal],
-    Unread: lambda data: list(data.parts),
-    Folder: lambda data: [],
-}
-
-
-def _row(row: Row) -> str:
-    sides = ("".join(piece.text for piece in pieces) if pieces else "(none)" for pieces in (row.before, row.after))
-    return f"{', '.join(row.names)}: {row.note or ' -> '.join(sides)};"
-
-
-def labels_of(rows: Sequence[Row]) -> str:
-    """The labels of the fields of some rows, by which people look for them."""
-    labels = label_of_fields()
-    return " ".join(dict.fromkeys(labels[name] for row in rows for name in row.names if name in labels))
 
 
 def kinds_of(lists: Sequence[tuple[str, str]], results: Iterable[str]) -> list[tuple[str, str]]:
@@ -304,7 +256,8 @@ class Renderer:
         if not self._look or key not in WITH_PICTURES:
             return {}
         paths = [path for entry in entries for path in entry.pictures]
-        others = _others(entries) if key == "changed" else []
+        # pictures that are other ones or damaged
+        others = [one for entry in entries if key == "changed" and entry.data.is_other for one in entry.data.pictures]
         compared = [path for one in others for path in (one.after, one.earlier) if path]
         pictures: dict[Any, str] = {**self.small_pictures.of(paths, compared)}
         for digest_ in {one.digest for one in others if one.digest}:
@@ -340,11 +293,6 @@ class Renderer:
     def joined(self, parts: Sequence[Any]) -> Any:
         """Several parts as one."""
         return self._html("").join(parts)
-
-
-def _others(entries: Sequence[Entry]) -> list[ChangedPicture]:
-    """The pictures that are other ones or damaged."""
-    return [one for entry in entries if entry.data.is_other for one in entry.data.pictures]
 
 
 def digest(text: str) -> str:

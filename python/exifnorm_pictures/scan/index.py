@@ -12,7 +12,9 @@ from collections import Counter
 from datetime import datetime, timezone
 from itertools import chain, islice
 from operator import itemgetter
-from typing import Callable, Iterable, Iterator, NamedTuple, Sequence
+from typing import Callable, Iterable, Iterator, Sequence
+
+from exifnorm._named import NamedTuple
 
 from ..catalogue.store import Catalogue, Known
 from ..extract import programs
@@ -23,9 +25,8 @@ from ..model.numbers import Numbers
 from ..model.problems import AGAIN, GONE, NEEDED, Problem
 from ..model.texts import pictures_in_words
 from ..model.records import RACY, PictureRecord, is_as_before
-from .batches import LONGEST_WAIT, Batch, How, Lines, Result
-from .walk import Excluded, FoundFile, Part, Unlisted, below, can_overlap, outermost
-from .moved import Departed, Paths, deepest, moved_folders, shared_folder
+from .walk import LONGEST_WAIT, Batch, Excluded, FoundFile, How, Lines, Part, Result, Unlisted, below, can_overlap, outermost
+from .moved import Departed, MovedFolders, Paths
 from .progress import Progress
 
 BATCH = 1000  # pictures of one transaction
@@ -114,18 +115,14 @@ def _settle(options: IndexOptions, at_work: "_Looking", departed: Departed) -> N
 
 def _report(options: IndexOptions, at_work: "_Looking", departed: Departed) -> None:
     """Reports pictures that are gone: those that moved with their folder in one line together."""
-    folders: "Counter[tuple[bytes, bytes] | None]" = Counter()
-    shared: dict[tuple[bytes, bytes], bytes] = {}
-    for path, to in departed.moves() if options.moved_line else ():
-        if both := moved_folders(path, to):
-            folders[both] += 1
-            shared[both] = shared_folder(shared.get(both), path)
+    folders = MovedFolders()
+    for both in departed.moves() if options.moved_line else ():
+        folders.add(*both)
     for (path, place), picture in zip(departed.each(), departed.reports()):
-        both = None if place is None else moved_folders(path, place)
-        at_work.count(picture, None if folders[both] > 1 else options.how.lines)
+        is_alone = place is None or folders.count(path, place) < 2
+        at_work.count(picture, options.how.lines if is_alone else None)
     if options.moved_line:
-        together = ((key, folders[key]) for key in shared if folders[key] > 1)
-        at_work.print_lines(options.moved_line(*deepest(key, shared[key]), count) for key, count in together)
+        at_work.print_lines(options.moved_line(*it) for it in folders.lines())
 
 
 def _now() -> str:

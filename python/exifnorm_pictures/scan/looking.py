@@ -21,8 +21,7 @@ from ..model import rest
 from ..model.problems import NO_BYTES, Problem
 from ..model.texts import reason
 from ..model.records import RACY, BlockRecord, PictureRecord, Stamp, Status
-from .batches import How
-from .walk import FoundFile
+from .walk import FoundFile, How
 
 
 # Nanoseconds in which two edits may have one time: twice a tick of the slowest kernel; and of file systems without parts of a second,

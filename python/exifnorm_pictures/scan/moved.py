@@ -2,16 +2,16 @@
 
 from __future__ import annotations
 
-import functools
 import hashlib
 import os
 import sqlite3
-from typing import Any, Callable, Iterator, Sequence
+from collections import Counter
+from typing import Any, Callable, Iterator, NamedTuple, Sequence
 
 from ..catalogue.store import Catalogue
 from ..model.records import PictureRecord
 from ..model.problems import Problem
-from ..model.texts import grouped, whole_path
+from ..model.texts import whole_path
 
 Key = tuple[object, ...]
 _MARKS = "size, modified, inode, sha256, coded_picture, not_read, exif_octets, iptc_octets, xmp_octets"
@@ -151,47 +151,69 @@ def _digest(key: Key | None) -> bytes | None:
     return None if key is None else hashlib.sha256(repr(key).encode("utf-8", "surrogatepass")).digest()
 
 
-def moved_together(went: dict[bytes, bytes]) -> dict[tuple[bytes, bytes], list[bytes]]:
-    """The pictures that moved from one folder to another with the path below it, by these two folders; two and more of each.
+# Pictures that moved with their folder. Their names are full paths, or all relative to the folders that were indexed.
 
-    >>> moved_together({b"/a/x/1.jpg": b"/b/x/1.jpg", b"/a/x/2.jpg": b"/b/x/2.jpg", b"/a/3.jpg": b"/c/4.jpg"})
-    {(b'/a/x', b'/b/x'): [b'/a/x/1.jpg', b'/a/x/2.jpg']}
-    """
-    together = grouped((folders, old) for old, new in went.items() if (folders := moved_folders(old, new)))
-    return {deepest(key, functools.reduce(shared_folder, paths, None) or b""): paths for key, paths in together.items() if len(paths) > 1}
+MOST = 10_000  # pairs of folders that are counted
+Folders = tuple[bytes, bytes]  # the one that a picture was in, and the one that it is in
 
 
-def shared_folder(folder: bytes | None, path: bytes) -> bytes:
-    """The deepest folder that has a picture and all that another folder has; of the first picture its own folder.
-
-    >>> shared_folder(None, b"/a/x/1.jpg"), shared_folder(b"/a/x/y", b"/a/x/1.jpg"), shared_folder(b"/a/x", b"/a/z/1.jpg")
-    (b'/a/x', b'/a/x', b'/a')
-    """
-    own = os.path.dirname(path)
-    return own if folder is None else os.path.commonpath([folder, own])
-
-
-def deepest(folders: tuple[bytes, bytes], shared: bytes) -> tuple[bytes, bytes]:
-    """The folder that moved, and where it is: the one above it may have others that stayed.
-
-    >>> deepest((b"/a", b"/a/new"), b"/a/x"), deepest((b"/a", b"/b"), b"/a")
-    ((b'/a/x', b'/a/new/x'), (b'/a', b'/b'))
-    """
-    below = shared[len(folders[0]) :].strip(b"/")
-    old, new = (os.path.join(folder, below) if below else folder for folder in folders)
-    return old, new
-
-
-def moved_folders(old: bytes, new: bytes) -> tuple[bytes, bytes] | None:
+def moved_folders(old: bytes, new: bytes) -> Folders | None:
     """The folder that a picture was in, and the one that it moved to with the path below it; None if its name is another one.
 
-    >>> moved_folders(b"/a/x/1.jpg", b"/b/x/1.jpg"), moved_folders(b"/a/3.jpg", b"/c/4.jpg")
-    ((b'/a', b'/b'), None)
+    >>> moved_folders(b"/a/x/1.jpg", b"/b/x/1.jpg"), moved_folders(b"x/1.jpg", b"b/x/1.jpg"), moved_folders(b"a/3.jpg", b"c/4.jpg")
+    ((b'/a', b'/b'), (b'', b'b'), None)
     """
-    old_names, new_names = old.split(b"/"), new.split(b"/")
-    while len(old_names) > 1 and len(new_names) > 1 and old_names[-1] == new_names[-1]:
-        del old_names[-1], new_names[-1]
-    return (b"/".join(old_names) or b"/", b"/".join(new_names) or b"/") if len(old_names) < old.count(b"/") + 1 else None
+    olds, news = old.split(b"/"), new.split(b"/")
+    if olds[-1] != news[-1]:
+        return None
+    while olds and news and olds[-1] == news[-1]:
+        del olds[-1], news[-1]
+    top = b"/" * old.startswith(b"/")
+    return b"/".join(olds) or top, b"/".join(news) or top
+
+
+class MovedFolder(NamedTuple):
+    """A folder that has another place now, and how many of its pictures."""
+
+    old: bytes
+    new: bytes
+    pictures: int
+
+
+class MovedFolders:
+    """Counts the pictures that moved, by their folders.
+
+    >>> moved = MovedFolders()
+    >>> for old, new in ((b"/a/x/1.jpg", b"/b/x/1.jpg"), (b"/a/x/y/2.jpg", b"/b/x/y/2.jpg"), (b"/a/3.jpg", b"/c/4.jpg")): moved.add(old, new)
+    >>> moved.lines(), moved.count(b"/a/x/1.jpg", b"/b/x/1.jpg")
+    ([MovedFolder(old=b'/a/x', new=b'/b/x', pictures=2)], 2)
+    """
+
+    def __init__(self) -> None:
+        self._counts: "Counter[Folders | None]" = Counter()
+        self._shared: dict[Folders, bytes] = {}  # the deepest folder that has all pictures that moved so
+
+    def add(self, old: bytes, new: bytes) -> None:
+        """Counts a picture that moved."""
+        pair = moved_folders(old, new)
+        if pair and (pair in self._shared or len(self._shared) < MOST):
+            self._counts[pair] += 1
+            own = os.path.dirname(old)
+            self._shared[pair] = os.path.commonpath([self._shared.get(pair, own), own])
+
+    def count(self, old: bytes, new: bytes) -> int:
+        """How many pictures moved as this one did, to another folder with the same name."""
+        return self._counts[moved_folders(old, new)]
+
+    def lines(self) -> list[MovedFolder]:
+        """The folders from which two and more pictures moved to another one, those of the most pictures first. The folder above
+        one that moved may have others that stayed."""
+        lines = []
+        for (old, new), shared in self._shared.items():
+            below = shared[len(old) :].strip(b"/")
+            before, after = (os.path.join(it, below) if below else it for it in (old, new))
+            lines.append(MovedFolder(before, after, self._counts[old, new]))
+        return sorted((it for it in lines if it.pictures > 1), key=lambda it: -it.pictures)
 
 
 _REMOUNTED = """SELECT old.path, new.path FROM pictures AS new JOIN pictures AS old USING (inode, size, modified, exif_octets, iptc_octets, xmp_octets)

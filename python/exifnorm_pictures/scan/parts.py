@@ -8,8 +8,10 @@ import hashlib
 import os
 import re
 from collections import Counter
-from operator import attrgetter
-from typing import Iterator, NamedTuple, Sequence
+from operator import itemgetter
+from typing import Iterator, Sequence
+
+from exifnorm._named import NamedTuple
 
 from ..catalogue import shards
 from ..catalogue.store import NUMBERS, Catalogue, roll_back
@@ -59,14 +61,6 @@ class Outcome(NamedTuple):
     problem: PictureRecord | None = None  # why the part wasn't looked at
 
 
-class _Kept(NamedTuple):
-    """What a catalogue that is there says of its part."""
-
-    part: Part | None  # None: it has no picture
-    has_sidecars: bool
-    has_digests: bool
-
-
 def plan(where: str, names: Sequence[bytes], patterns: Sequence[str]) -> Plan:
     """The parts of some folders, whose catalogues are listed before the first of them is made: an answer over the list then knows which are
     missing. Raises `WrongFolder`."""
@@ -74,7 +68,7 @@ def plan(where: str, names: Sequence[bytes], patterns: Sequence[str]) -> Plan:
     listed = _check(where, tops)
     known = {_key_of(name): name for name in listed}
     kept = {_key_of(name): _kept(file) for name in listed if shards.is_made(file := os.path.join(where, name))}
-    there = {key: one.part for key, one in kept.items() if one.part}
+    there = {key: part for key, (part, *_) in kept.items() if part}
     roots = {part.top for part in there.values()}
     excluded = Excluded(patterns)
     now = {_key(part): part for top in tops for part in _parts(top, excluded, known, roots)}
@@ -84,7 +78,7 @@ def plan(where: str, names: Sequence[bytes], patterns: Sequence[str]) -> Plan:
     if not now.keys() <= known.keys():
         listed = _listed_with(where, now)
     found = [Shard(name, now[_key_of(name)]) for name in listed if _key_of(name) in now]
-    sidecars, digests = (any(map(attrgetter(it), kept.values())) for it in ("has_sidecars", "has_digests"))
+    sidecars, digests = (any(map(itemgetter(at), kept.values())) for at in (1, 2))
     return Plan([*found, *gone], sidecars, digests, not roots, excluded.count, frozenset(excluded.unused()))
 
 
@@ -114,7 +108,8 @@ def _check(where: str, tops: Sequence[bytes]) -> list[str]:
     _check_tops(where, shown, tops)
     if not os.path.lexists(where):
         return []
-    if not os.path.isdir(where) or (not shards.is_folder(where) and any(not name.startswith(".") for name in os.listdir(where))):
+    # Names first: a run that begins at the same time writes its list between the two looks
+    if not os.path.isdir(where) or (any(not name.startswith(".") for name in os.listdir(where)) and not shards.is_folder(where)):
         raise WrongFolder(f"{shown} is no folder of catalogues: give a new folder to --shards")
     for name in shards.elsewhere(where):
         raise WrongFolder(f"{shown} isn't written to: {shown_path(os.fsencode(os.path.join(where, name)))} lies elsewhere")
@@ -179,8 +174,9 @@ def _number_of(name: str) -> int:
     return int(name.partition("-")[0])
 
 
-def _kept(name: str) -> _Kept:
-    """What a catalogue has, also if a run was killed while it wrote to it: then it has a journal, which only one that writes can roll back."""
+def _kept(name: str) -> tuple[Part | None, bool, bool]:
+    """The part of a catalogue if it has a picture, and whether it has sidecars and digests; also if a run was killed while it wrote to it: then
+    it has a journal, which only one that writes can roll back."""
     roll_back(name)
     with Catalogue(name) as catalogue:
         row = next(catalogue.rows("SELECT root, path FROM pictures LIMIT 1"), None)
@@ -188,7 +184,7 @@ def _kept(name: str) -> _Kept:
         if row:
             top, below = row[0], row[1][len(row[0].rstrip(b"/")) + 1 :]
             part = Part(top, os.path.join(top, below.split(b"/")[0]) if b"/" in below else top)
-        return _Kept(part, catalogue.has_sidecars(), catalogue.has_digests())
+        return part, catalogue.has_sidecars(), catalogue.has_digests()
 
 
 def indexed(where: str, shard: Shard, options: IndexOptions, patterns: Sequence[str]) -> Outcome:

@@ -16,7 +16,7 @@ from typing import Any, Iterator, Sequence
 
 from ..extract import programs
 from ..model.problems import Problem
-from .batches import How
+from .walk import How
 from .index import IndexOptions
 from .parts import Outcome, Plan, Shard, WrongFolder, indexed, not_looked_at, plan
 

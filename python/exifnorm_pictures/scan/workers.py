@@ -5,7 +5,6 @@ from __future__ import annotations
 import contextlib
 import ctypes
 import itertools
-import multiprocessing
 import os
 import signal
 import threading
@@ -14,7 +13,7 @@ from collections import deque
 from concurrent.futures import Future, ProcessPoolExecutor, wait
 from concurrent.futures.process import BrokenProcessPool
 from contextvars import ContextVar
-from multiprocessing import util
+from multiprocessing import get_context, util
 from typing import Iterable, Iterator, NamedTuple, Sequence
 
 from ..extract import programs
@@ -23,9 +22,8 @@ from ..files.session import Session
 from ..model.budgets import READY_BYTES
 from ..model.records import PictureRecord
 from ..model.texts import reason
-from .batches import LONGEST_WAIT, Batch, How, Result, batch
 from .looking import failed, in_this_process, look
-from .walk import FoundFile
+from .walk import LONGEST_WAIT, Batch, FoundFile, How, Result, batch
 
 CHUNK = 500  # pictures that a process gets at once at most
 PARTS = 8  # chunks of each process at least, so that all end at nearly the same time ..
@@ -203,7 +201,7 @@ def _remove_files(tasks: Iterable[Task]) -> None:
 
 def _pool(how: How, processes: int) -> ProcessPoolExecutor:
     """Processes that have begun. A signal that comes meanwhile ends them. Raises `CannotStart`."""
-    context = multiprocessing.get_context("fork")
+    context = get_context("fork")
     try:
         with signals.signals_held() as mask:
             _check_threads(processes)  # a thread that was waited for may not have ended yet, and would take a signal

@@ -2,12 +2,11 @@
 
 from __future__ import annotations
 
-from ..model import budgets
-from ..model.budgets import LANGUAGE, LIMITS, NAMESPACE, NESTED, PACKET_BYTES, Budget
+from ..model.budgets import LANGUAGE, LIMITS, NAMESPACE, NESTED, PACKET_BYTES, XMP_ATTRIBUTES, XMP_BYTES, XMP_TAGS, Budget, TooLong, TooMuch
 
 CAUSES = {
     "TooLong": f"The packet has more than {PACKET_BYTES:,} bytes, or the packets of its file together have more than"
-    f" {LIMITS[budgets.XMP_BYTES]:,} bytes, {LIMITS[budgets.XMP_TAGS]:,} tags or {LIMITS[budgets.XMP_ATTRIBUTES]:,} attributes.",
+    f" {LIMITS[XMP_BYTES]:,} bytes, {LIMITS[XMP_TAGS]:,} tags or {LIMITS[XMP_ATTRIBUTES]:,} attributes.",
     "LongNamespace": f"A namespace of the packet has more than {NAMESPACE} characters.",
     "LongLanguage": f"A language of the packet (xml:lang) has more than {LANGUAGE} characters.",
     "NotText": "The packet is no text in UTF-8, UTF-16 or UTF-32, or declares another encoding.",
@@ -44,10 +43,10 @@ def spend(packet: bytes, budget: Budget) -> None:
     refuse_if(len(packet) > PACKET_BYTES, "TooLong")
     budget.check_time()
     try:
-        budget.spend(budgets.XMP_BYTES, len(packet))
-        budget.spend(budgets.XMP_TAGS, packet.count(b"<"))
-        budget.spend(budgets.XMP_ATTRIBUTES, packet.count(b"="))
-    except budgets.TooLong:
+        budget.spend(XMP_BYTES, len(packet))
+        budget.spend(XMP_TAGS, packet.count(b"<"))
+        budget.spend(XMP_ATTRIBUTES, packet.count(b"="))
+    except TooLong:
         raise
-    except budgets.TooMuch:
+    except TooMuch:
         raise Unreadable("TooLong") from None

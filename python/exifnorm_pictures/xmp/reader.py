@@ -8,7 +8,6 @@ from __future__ import annotations
 import functools
 import re
 from xml.etree import ElementTree
-from xml.etree.ElementTree import Element
 
 from ..model.budgets import CACHED, LANGUAGE, NAMESPACE, NESTED
 from ..model.xmp_encodings import encoding_of
@@ -103,7 +102,7 @@ def statements(packet: bytes) -> Statements:
     return of_root(rdf_of(packet))
 
 
-def of_root(root: Element) -> Statements:
+def of_root(root: ElementTree.Element) -> Statements:
     """The statements of an rdf:RDF element. Raises `Unreadable`."""
     refuse_if(set(root.attrib) - {_LANG} or _says(root.text))
     every = []
@@ -124,7 +123,7 @@ def _says(text: "str | None") -> bool:
     return bool(text) and not text.isspace()  # type: ignore[union-attr]
 
 
-def _language(element: Element, outer: str) -> str:
+def _language(element: ElementTree.Element, outer: str) -> str:
     """The language of an element's texts, which it has from the elements around it unless it has its own."""
     language = element.get(_LANG)
     if language is None:
@@ -149,7 +148,7 @@ def _made_uri(name: str) -> str:
 _cached_uri = functools.lru_cache(maxsize=4096)(_made_uri)
 
 
-def _node(node: Element, language: str, inner: list[Statements]) -> list[Statement]:
+def _node(node: ElementTree.Element, language: str, inner: list[Statements]) -> list[Statement]:
     """The statements of a node element: its type, its attributes, and its property elements. Those about the picture in a value go to `inner`."""
     refuse_if(node.tag not in _NODES or _says(node.text))
     language = _language(node, language)
@@ -164,7 +163,7 @@ def _node(node: Element, language: str, inner: list[Statements]) -> list[Stateme
     return statements + _properties(node, language, inner)
 
 
-def _properties(node: Element, language: str, inner: list[Statements]) -> list[Statement]:
+def _properties(node: ElementTree.Element, language: str, inner: list[Statements]) -> list[Statement]:
     statements = []
     number = 0
     for element in node:
@@ -184,7 +183,7 @@ def _resource(uri: str) -> Uri:
     return Uri(uri)
 
 
-def _value(element: Element, language: str, inner: list[Statements]) -> Value:
+def _value(element: ElementTree.Element, language: str, inner: list[Statements]) -> Value:
     """The value of a property element."""
     own = {name: text for name, text in element.attrib.items() if name != _LANG}
     if not own:
@@ -198,7 +197,7 @@ def _value(element: Element, language: str, inner: list[Statements]) -> Value:
     return _by_attributes(own, language)
 
 
-def _content(element: Element, language: str, inner: list[Statements]) -> Value:
+def _content(element: ElementTree.Element, language: str, inner: list[Statements]) -> Value:
     if not len(element):
         return Literal(element.text or "", language)
     node = element[0]

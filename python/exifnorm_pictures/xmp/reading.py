@@ -12,7 +12,7 @@ from exifnorm._xmp import form_of
 
 from ..model.budgets import Budget
 from .packets import refuse_if, spend
-from .tree import CONTAINERS, RDF, TYPE, Literal, Node, Statement, Statements, Uri, Value
+from .tree import CONTAINERS, RDF, TYPE, Literal, Node, Statement, Statements, Uri
 
 NOTE = "http://ns.adobe.com/xmp/note/HasExtendedXMP"
 
@@ -60,8 +60,7 @@ def statements(packet: bytes, extensions: Extensions, used: set[str]) -> Stateme
     if not wanted:
         return parsed
     used.update(wanted)
-    added = chain.from_iterable(map(extensions.statements, wanted))
-    return (*(it for it in parsed if it.predicate != NOTE), *added)
+    return (*(it for it in parsed if it.predicate != NOTE), *chain.from_iterable(map(extensions.statements, wanted)))
 
 
 def _parsed(packet: bytes) -> Statements:
@@ -82,8 +81,10 @@ def of_form(form: bytes) -> Statements:
     return tuple(made_of_form(form, _STATEMENTS))
 
 
-def _container(kind: str, members: tuple[Value, ...]) -> Node:
-    return Node((_TYPES[kind], *[Statement(f"{RDF}_{number}", it) for number, it in enumerate(members, 1)]))
-
-
-_STATEMENTS = Makers(Literal, Uri, _container, Node, lambda namespace, name, value: Statement(namespace + name, value))
+_STATEMENTS = Makers(
+    Literal,
+    Uri,
+    lambda kind, members: Node((_TYPES[kind], *[Statement(f"{RDF}_{number}", it) for number, it in enumerate(members, 1)])),
+    Node,
+    lambda namespace, name, value: Statement(namespace + name, value),
+)

@@ -4,7 +4,9 @@ from __future__ import annotations
 
 import hashlib
 import re
-from typing import NamedTuple, Union
+from typing import Union
+
+from exifnorm._named import NamedTuple
 
 from ..model.xmp_values import Literal, Uri
 

@@ -15,8 +15,7 @@ from typing import Callable, IO, Iterable, Iterator, NamedTuple, Sequence
 
 from ...catalogue.store import Catalogue, NoCatalogue, of_day
 from ...comparison.changed import states as changes
-from ...comparison.changed.pairs import AFTER, heads_of
-from ...comparison.changed.states import Compared
+from ...comparison.changed.pairs import heads_of
 from ...comparison.changed.summary import Summary
 from ...comparison.changed.undo import arguments
 from ...comparison.coded import Coded, sentence_of_coded
@@ -25,17 +24,17 @@ from ...fields.choosing import lines as lines_of_choice
 from ...fields.listing import MAKER_NOTE
 from ...fields.names import group_name
 from ...files import atomic
+from ...judge.sides import AFTER
 from ...model.errors import WrongUse
 from ...model.texts import Result, pictures_in_words, shown_path
 from .. import changed_tables
 from ..choice import choice_of, listings_of, note_absent, refuse_unknown
-from ..exit_codes import UNKNOWN, status_of_results
+from ..exit_codes import UNKNOWN
 from ..options import Fields, Output, Run, group_of, groups_of
-from ..output import MOST_NAMED, print_line, print_lines, say_notes, table_of
+from ..output import MOST_NAMED, print_line, print_lines, say_notes, status_of_results, table_of
 from ..looking import catalogue_of, files_of, is_of_pictures
 from ..names import each_of_list, refuse_pictures, say_unknown
 from ..parser import refuse
-from ..changed_tables import Style, lines
 
 
 def run(arguments: argparse.Namespace) -> int:
@@ -188,7 +187,7 @@ class _Work:
         for comparison in self._seen(self._compared()):
             counted.add(comparison)
         notes = [*self._of_pictures(), *lines_of_choice(self.choice, True)]
-        for line in lines(counted, self.counts, notes, _style(), bool(self.asked.match)):
+        for line in changed_tables.lines(counted, self.counts, notes, _style(), bool(self.asked.match)):
             print(line) if "\x1b" in line else print_line(line)  # all texts in it were made safe
 
     def _print_names(self, comparisons: Comparisons) -> None:
@@ -203,12 +202,12 @@ class _Work:
         sys.stdout.buffer.flush()
 
 
-def _style() -> Style:
+def _style() -> changed_tables.Style:
     """Colours only on a terminal that has them, unless somebody wants none (no-color.org)."""
     if not sys.stdout.isatty():
-        return Style()
+        return changed_tables.Style()
     has_colours = os.environ.get("TERM", "dumb") != "dumb" and not os.environ.get("NO_COLOR")
-    return Style(shutil.get_terminal_size().columns, has_colours)
+    return changed_tables.Style(shutil.get_terminal_size().columns, has_colours)
 
 
 def _knows(*sides: Catalogue) -> Callable[[bytes], bool]:
@@ -300,7 +299,7 @@ class Undo:
         self._count = 0
         file.write(_HEAD)
 
-    def seen(self, comparisons: Iterable[Compared]) -> Iterator[Compared]:
+    def seen(self, comparisons: Iterable[changes.Compared]) -> Iterator[changes.Compared]:
         """The comparisons, after the arguments of each were written."""
         for comparison in comparisons:
             place = comparison.moved_to or comparison.name
@@ -332,7 +331,7 @@ class Undo:
             yield f"  and {self._count - MOST_NAMED:,} more, which the file names"
 
 
-def _not_compared(comparison: Compared) -> list[str]:
+def _not_compared(comparison: changes.Compared) -> list[str]:
     """What nobody can put back, or knows to be the same."""
     is_open = comparison.result.is_open and comparison.result not in _HAVE_TEXTS
     if comparison.result == Result.MISSING_AFTER:

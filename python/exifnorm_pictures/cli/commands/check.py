@@ -6,7 +6,7 @@ import argparse
 import os
 from collections import Counter
 from dataclasses import dataclass, field
-from itertools import groupby
+from itertools import chain, groupby
 from typing import Iterator, Sequence
 
 from ...catalogue.checking import Broken, Checked
@@ -30,8 +30,9 @@ def run(arguments: argparse.Namespace) -> int:
     """Lists the pictures that break a rule."""
     files, run, output = groups_of(arguments)
     rules = rules_of_file(arguments.rules) if arguments.rules else [Rule(1, "labels agree", AGREE, COMPARED)]
-    if all(map(_is_of_labels, rules)) and not arguments.by_picture:
-        return agreement(files, run, output, arguments.all, {label for rule in rules for label in rule.labels})
+    are_of_labels = all((rule.kind, rule.inside, rule.outside) == (AGREE, (), ()) for rule in rules)
+    if are_of_labels and not arguments.by_picture:
+        return agreement(files, run, output, arguments.all, set(chain.from_iterable(rule.labels for rule in rules)))
     if arguments.all:
         raise WrongUse("--all lists what differs in form alone, which is for rules that labels agree, without others and without folders")
     sources = named(files)
@@ -44,11 +45,6 @@ def run(arguments: argparse.Namespace) -> int:
         if checked.not_known():
             return UNKNOWN
         return DIFFERENCE if checked.rules_broken() else SUCCESS
-
-
-def _is_of_labels(rule: Rule) -> bool:
-    """Whether a rule is one of agreement, about all pictures."""
-    return rule.kind == AGREE and not rule.inside and not rule.outside
 
 
 def _print(output: Output, checked: Checked, by_picture: bool) -> None:

@@ -13,19 +13,18 @@ from ...comparison.wording import NONE, tag_of
 from ...fields.choosing import Choice, lines, members_of
 from ...fields.field import Field
 from ...fields.packing import fields_of
-from ...fields.typed import together
 from ...files.opening import held
 from ...model.budgets import COMPARED_FIELDS
 from ...model.found import XMP_FILE, other_name
 from ...model.records import BlockRecord, PictureRecord
 from ...model.problems import NO_BYTES
 from ...model.texts import Members, Result, escaped, shown_path
-from ...scan.batches import How
+from ...scan.walk import How
 from ..choice import choice_of, refuse_unknown
 from ..names import refuse_folders
-from ..exit_codes import SUCCESS, UNKNOWN, status_of_results
+from ..exit_codes import SUCCESS, UNKNOWN
 from ..options import Fields, group_of, groups_of
-from ..output import Table, columns, note_sidecar, picture_object, print_lines, print_object, table_of, unread_members
+from ..output import Table, columns, note_sidecar, picture_object, print_lines, print_object, status_of_results, table_of, unread_members
 
 
 def run(arguments: argparse.Namespace) -> int:
@@ -38,8 +37,7 @@ def run(arguments: argparse.Namespace) -> int:
         refuse_folders(arguments.before, arguments.after)
         (old, head), (new, other) = (read(it, how, run.session) for it in paths)
     choice = _choice(group_of(Fields, arguments), old, new)
-    session = run.session if run.session.programs else None
-    comparison = compare(old, new, session, choice, (head, other))
+    comparison = compare(old, new, run.session if run.session.programs else None, choice, (head, other))
     rows = rows_of(comparison, output.exact)
     rows = rows if output.exact else with_position(rows, old, new)
     choice.add_left_out(comparison.left_out)
@@ -223,6 +221,8 @@ def _row_members(row: FieldRow) -> Members:
 
 def _side_members(row: FieldRow, side: int) -> Members | None:
     """The value before or after; its typed form only if the row is one field."""
+    from ...fields.typed import together  # which takes long to import
+
     if row.plain[side] is None:
         return None
     fields = (row.differences[0].before, row.differences[0].after)[side] if len(row.differences) == 1 else ()

@@ -92,9 +92,6 @@ def _repair(block: Block) -> list[str]:
 
 # --json
 
-# What an accepted block has instead of an explanation
-_WITHOUT: Members = {"sentence": None, "meaning": None, "here": [], "bytes": [], "writers": [], "remedy": None, "cost": None}
-
 
 def _print_objects(files: Files, run: Run, tried: Try) -> int:
     """An object for each block, and one for a picture that wasn't read wholly or has no block."""
@@ -110,10 +107,10 @@ def _print_objects(files: Files, run: Run, tried: Try) -> int:
 
 
 def _block_members(block: Block, mended: mend.Mended | str) -> Members:
-    explained = {} if block.is_accepted else _explained(block, mended).members()
-    words = {key: explained.get(key, value) for key, value in _WITHOUT.items()}
+    record = block._record
+    explained = explain.Explanation(block.kind, record) if block.is_accepted else _explained(block, mended)
     tried = None if isinstance(mended, str) else {"step": mended.remedy, "lost": mended.lost, "gained": mended.gained}
-    return {**block._record.members, **words, "repair": [step._asdict() for step in block._record.steps], "mend": tried}
+    return {**record.members, **explained.members(), "repair": [step._asdict() for step in record.steps], "mend": tried}
 
 
 def _picture_members(picture: Picture) -> Members:

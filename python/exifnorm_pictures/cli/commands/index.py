@@ -24,13 +24,8 @@ from ..options import Files, Output, Run, groups_of
 from ..output import answer, counted, print_line, print_lines, record_lines, record_objects, say_notes
 
 
-def going_on(run: Run, catalogue: Catalogue) -> Run:
-    """Goes on as a catalogue was begun. Raises `WrongUse`."""
-    return _going_on(run, catalogue.name, catalogue.has_sidecars(), catalogue.has_digests(), catalogue.is_empty())
-
-
-def _going_on(run: Run, name: str, has_sidecars: bool, has_digests: bool, is_empty: bool) -> Run:
-    """Goes on with XMP sidecars, and with digests of coded pictures, where some were read before."""
+def going_on(run: Run, name: str, has_sidecars: bool, has_digests: bool, is_empty: bool) -> Run:
+    """Goes on with XMP sidecars, and with digests of coded pictures, where some were read before. Raises `WrongUse`."""
     if run.sidecars and not has_sidecars and not is_empty:
         raise WrongUse(f"{name} was made without --sidecars: make a new one")
     # of the pictures that changed, too
@@ -53,7 +48,8 @@ def _indexed(name: str, names: Sequence[bytes], run: Run, output: Output, keep_o
     with Catalogue(name, make=True) as catalogue:
         if keep_old:
             _keep_old(catalogue, keep_old, run)
-        options = printing_options(going_on(run, catalogue), output, names)._replace(excluded=excluded)
+        run = going_on(run, name, catalogue.has_sidecars(), catalogue.has_digests(), catalogue.is_empty())
+        options = printing_options(run, output, names)._replace(excluded=excluded)
         counts, unread = index(options, catalogue), lacking(options, catalogue)
         parts = _parts(catalogue) if has_words else []
         damaged = number_of(catalogue, f"{DAMAGED} AND {OF_LAST_RUN}")
@@ -63,12 +59,9 @@ def _indexed(name: str, names: Sequence[bytes], run: Run, output: Output, keep_o
     say_unused(excluded.unused())
     say_notes(*not_read_again(unread))
     status = _print_end(output, counts, damaged, parts, steps)
-    return UNKNOWN if any(map(_is_special, names)) else status
-
-
-def _is_special(name: bytes) -> bool:
-    """Whether a name is that of a pipe or a device."""
-    return os.path.exists(name) and not (os.path.isfile(name) or os.path.isdir(name))
+    # of a name that is a pipe's or a device's
+    is_special = any(os.path.exists(it) and not (os.path.isfile(it) or os.path.isdir(it)) for it in names)
+    return UNKNOWN if is_special else status
 
 
 def not_read_again(counts: "Counter[str]") -> Iterator[str]:
@@ -114,8 +107,7 @@ def _are_known(names: Sequence[bytes], catalogue: str) -> bool:
     if not os.path.lexists(catalogue):
         return False
     with Catalogue(catalogue) as known:
-        paths = [os.path.abspath(name) for name in names]
-        return any(known.has(path) or any(True for _ in known.below(path)) for path in paths)
+        return any(known.has(path) or any(True for _ in known.below(path)) for path in (os.path.abspath(it) for it in names))
 
 
 def _next_steps(catalogue: Catalogue, name: str, excluded: int) -> Iterator[str]:
@@ -123,13 +115,11 @@ def _next_steps(catalogue: Catalogue, name: str, excluded: int) -> Iterator[str]
     from ...comparison.same import groups  # which takes long to import, and --quiet needs none of it
 
     word = escaped(shlex.quote(name))
-    count, _ = groups.totals(catalogue)
-    if count:
+    if count := groups.totals(catalogue)[0]:
         yield f"{in_words(count, 'group')} of pictures whose metadata mean the same: exifnorm-pictures same {word}"
-    refused = number_of(catalogue, REFUSED)
     if damaged := number_of(catalogue, DAMAGED):
         yield f"{damaged:,} cut off or damaged: exifnorm-pictures report {word} --html report.html"
-    if refused:
+    if refused := number_of(catalogue, REFUSED):
         yield f"{refused:,} refused or unreadable: exifnorm-pictures report {word} --html report.html"
     if count := 0 if catalogue.has_sidecars() else number_of(catalogue, OF_XMP):
         yield f"{xmp_files_alone(count)}: index --sidecars, with a new catalogue, takes those beside pictures as metadata of them"
@@ -152,7 +142,7 @@ def _indexed_shards(where: str, names: Sequence[bytes], run: Run, output: Output
 def _here(where: str, names: Sequence[bytes], run: Run, output: Output) -> tuple[Plan, list[Outcome]]:
     """By this process, one part after another."""
     planned = plan(where, names, run.exclude)
-    run = _going_on(run, where, planned.has_sidecars, planned.has_digests, planned.is_empty)
+    run = going_on(run, where, planned.has_sidecars, planned.has_digests, planned.is_empty)
     options = printing_options(run, output, [])
     outcomes = []
     for shard in planned.shards:
@@ -169,7 +159,7 @@ def _on_cluster(where: str, names: Sequence[bytes], run: Run, output: Output) ->
     cluster = Parts(run.scheduler, where, run.again, how_of(run, ""), run.exclude)
     planned = cluster.planned(names)
     outcomes = []
-    run = _going_on(run, where, planned.has_sidecars, planned.has_digests, planned.is_empty)
+    run = going_on(run, where, planned.has_sidecars, planned.has_digests, planned.is_empty)
     for shard, outcome in cluster.outcomes(planned, how_of(run, "")):
         outcomes.append(outcome)
         _print_problem(output, outcome)

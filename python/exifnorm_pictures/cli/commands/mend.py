@@ -44,23 +44,15 @@ def _mended(files: Files, run: Run, output: Output, lossless: bool) -> int:
         worst, damaged = max(worst, status), damaged + is_damaged
         counts[result] += 1
     if folder is not None:
-        line = _counted(counts) + f"; {damaged:,} cut off or damaged, which no copy mends" * bool(damaged)
+        many = ", ".join(f"{counts[it]:,} {words}" for it, words in zip(COUNTED, _WORDS) if counts[it])
+        line = pictures_in_words(sum(counts.values())) + f": {many}" * bool(many)
+        line += f"; {damaged:,} cut off or damaged, which no copy mends" * bool(damaged)
         answer(output, "mend", "summary", {"counts": {it: counts[it] for it in COUNTED}, "damaged": damaged}, [line])
     return worst
 
 
 COUNTED = ("lossless", "lossy", "plain", "not mended")  # pictures with a copy that loses nothing, or something, a plain copy, or none
 _WORDS = ("mended without loss", "with values lost or changed", "copied as they are", "not mended")
-
-
-def _counted(counts: "Counter[str]") -> str:
-    """How many pictures have each result.
-
-    >>> _counted(Counter(lossless=45, lossy=9)), _counted(Counter())
-    ('54 pictures: 45 mended without loss, 9 with values lost or changed', '0 pictures')
-    """
-    many = ", ".join(f"{counts[it]:,} {words}" for it, words in zip(COUNTED, _WORDS) if counts[it])
-    return pictures_in_words(sum(counts.values())) + f": {many}" * bool(many)
 
 
 def _mend_one(

@@ -5,7 +5,6 @@ from __future__ import annotations
 import argparse
 import contextlib
 import os
-import re
 import shlex
 import sys
 from collections import Counter
@@ -30,7 +29,7 @@ from ...scan.walk import Excluded
 from ...scan.index import IndexOptions, index, lacking, number_of
 from ..exit_codes import DIFFERENCE, SUCCESS, UNKNOWN
 from ..options import Output, Run, groups_of
-from ..output import local_time, print_lines, print_object, say_notes, width
+from ..output import fitting, local_time, print_lines, print_object, say_notes, width
 from ..looking import how_of, is_quiet
 from ..names import settle_first
 from .check import rules_of_file
@@ -43,30 +42,6 @@ LINES, COLUMNS = 30, 80
 OF_KIND = 5  # lines of one kind of news
 EDITS = 20  # lines with the values before and after
 
-# What is said of one picture, and of several; {} is what the news is about
-_SAID = """
-LOST           lost its {}                           lost their {}
-POSITION       shows where it was taken              show where they were taken
-DAMAGED        is damaged                            are damaged
-RULE           breaks {}                             break {}
-OTHER_PICTURE  has another picture                   have another picture
-PARTS          with {}                               with {}
-UNREADABLE     can't be read                         can't be read
-OPEN           can't be fully compared               can't be fully compared
-UNREAD         was not wholly read, and may break a rule  were not wholly read, and may break a rule
-CHANGED        has another {}                        have another {}
-ADDED          now has a {}                          now have a {}
-OTHER          has other fields changed              have other fields changed
-WRITTEN        was written to, and isn't read        were written to, and aren't read
-UNSEEN         was written to, and its picture isn't read  were written to, and their pictures aren't read
-MOVED_FOLDER   moved with its folder                 moved with their folder
-MOVED          moved                                 moved
-RENUMBERED     renumbered                            renumbered
-GONE           is gone                               are gone
-NEW            is new                                are new
-READABLE       can be read again                     can be read again
-"""
-_WORDS = {Kind[name]: words for name, *words in (re.split(" {2,}", line) for line in _SAID.strip().splitlines())}
 _PLURAL = ("keywords", "instructions", "usage terms")  # which have no article
 
 
@@ -110,7 +85,7 @@ def _of_folders(news: Sequence[News]) -> Iterator[str]:
         if entry.kind in _OF_FOLDERS:
             why = "can't be read." if entry.kind == Kind.CLOSED else "is empty or gone (mounted?)."
             kept = f" {why} Its {pictures_in_words(entry.count)} stay{'s' * (entry.count == 1)} as known."
-            yield f"  {_from_behind(whole_path(entry.names[0].path), COLUMNS - 2 - len(kept))}{kept}"
+            yield f"  {_from_behind(whole_path(entry.names[0][0]), COLUMNS - 2 - len(kept))}{kept}"
 
 
 def _of_pictures(news: Sequence[News]) -> Iterator[str]:
@@ -120,7 +95,7 @@ def _of_pictures(news: Sequence[News]) -> Iterator[str]:
         entries = list(group)
         shown = entries if len(entries) <= OF_KIND else entries[: OF_KIND - 1]
         for entry in shown:
-            names = [whole_path(it.path) if it.to is None else moved(whole_path(it.path), whole_path(it.to)) for it in entry.names]
+            names = [whole_path(path) if to is None else moved(whole_path(path), whole_path(to)) for path, to in entry.names]
             count = 1 if entry.kind == Kind.MOVED_FOLDER else entry.count  # there are no further names of a folder
             yield with_names(f"  {entry.count:>{digits},} {words_of(entry)}", names, count)
         if len(shown) < len(entries):
@@ -133,7 +108,7 @@ def words_of(news: News) -> str:
     >>> words_of(News(Kind.LOST, "copyright", 3)), words_of(News(Kind.ADDED, "keywords", 1))
     ('lost their copyright', 'now has keywords')
     """
-    words = _WORDS[news.kind][news.count != 1]
+    words = news.kind.one if news.count == 1 else news.kind.many
     if news.about in _PLURAL:
         words = words.replace("a {}", "{}").replace("another {}", "other {}")
     return words.format(escaped(news.about))
@@ -148,8 +123,7 @@ def with_names(text: str, names: Sequence[str], count: int) -> str:
     if not names:
         return cut(text)
     text = cut(text, COLUMNS - 20)
-    first = _from_behind(names[0], COLUMNS - width(text) - 5)
-    shown = [first]
+    shown = [_from_behind(names[0], COLUMNS - width(text) - 5)]
     for name in names[1:]:
         if width(f"{text}: {', '.join([*shown, name])} ..") > COLUMNS:
             break
@@ -159,20 +133,13 @@ def with_names(text: str, names: Sequence[str], count: int) -> str:
 
 def cut(text: str, columns: int = COLUMNS) -> str:
     """The beginning of a text that is too long for a line."""
-    if width(text) <= columns:
-        return text
-    while width(text) > columns - 3:
-        text = text[:-1]
-    return f"{text} .."
+    return text if width(text) <= columns else f"{text[: fitting(text, 0, columns - 3)]} .."
 
 
 def _from_behind(text: str, columns: int) -> str:
     """The end of a name that is too long for a line, which tells more than its beginning."""
-    if width(text) <= columns:
-        return text
-    while width(text) > columns - 2:
-        text = text[1:]
-    return f"..{text}"
+    kept = fitting(text[::-1], 0, columns - 2)
+    return text if width(text) <= columns else f"..{text[len(text) - kept :]}"
 
 
 def command(before: str, last: str) -> list[str]:
@@ -210,9 +177,7 @@ class Night:
             return DIFFERENCE
         if any(it.kind.is_open for it in self.news):
             return UNKNOWN
-        if self.news:
-            return DIFFERENCE
-        return SUCCESS
+        return DIFFERENCE if self.news else SUCCESS
 
     def look(self) -> None:
         """Fills tonight's catalogue."""
@@ -220,7 +185,7 @@ class Night:
             run, earlier = self.run, self.nights.earlier
             if earlier:  # which went on with both
                 run = run._replace(sidecars=run.sidecars or earlier.sidecars, pixels=run.pixels or earlier.pixels)
-            run = going_on(run, tonight)
+            run = going_on(run, tonight.name, tonight.has_sidecars(), tonight.has_digests(), tonight.is_empty())
             own = [*self.nights.names, *([self.output.html] if self.output.html else [])]
             how = how_of(run, run.session.room)
             options = IndexOptions(self.folders, quiet=is_quiet(run), how=how, excluded=self.excluded, lines=self._note, own=own)
@@ -394,8 +359,7 @@ def _end(night: Night) -> list[str]:
         lines.append(f"{many}." if night.is_first else f"{many}, {before:,} last night.")
     lines += night.notes
     if not night.is_first:
-        words = [escaped(shlex.quote(name)) for name in night.nights.compared]
-        lines += command(*words)
+        lines += command(*(escaped(shlex.quote(name)) for name in night.nights.compared))
     return lines
 
 
@@ -404,7 +368,7 @@ def _end(night: Night) -> list[str]:
 
 def _print_objects(night: Night) -> None:
     for news in night.news:
-        pictures = [{**path_members(it.path), "to": path_or_none(it.to)} for it in news.names]
+        pictures = [{**path_members(path), "to": path_or_none(to)} for path, to in news.names]
         about = {"about": news.about or None, "to": news.to or None}
         print_object(
             "nightly", "news", {"news": news.kind, **about, "is_open": news.kind.is_open, "count": news.count, "pictures": pictures}

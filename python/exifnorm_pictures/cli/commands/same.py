@@ -22,9 +22,9 @@ from ..choice import choice_for
 from ..grammar import FILE, PIXELS
 from ..looking import Preparing, keep_texts, opened
 from ..names import chosen_in, say_unknown
-from ..exit_codes import UNKNOWN, status_of_results
+from ..exit_codes import UNKNOWN
 from ..options import Fields, Output, Run, group_of, groups_of
-from ..output import Table, line_of, print_line, print_lines, print_object, say_notes, table_of
+from ..output import Table, line_of, print_line, print_lines, print_object, say_notes, status_of_results, table_of
 
 if TYPE_CHECKING:
     from ...catalogue.asking import Answer, Texts
@@ -162,25 +162,24 @@ class _Left(NamedTuple):
 
 def _left_out(catalogue: Catalogue, kind: str, kinds: Sequence[str], only: str | None, choice: Choice) -> _Left:
     """How many pictures may be the same as others, and aren't listed."""
-    if kind == FILE:
-        return _Left(whole_files(catalogue, only).unreadable)
-    if kind == PIXELS:
-        return _Left(coded_pictures(catalogue, only).undecided)
+    if kind in _BY_DIGEST:
+        return _Left(_BY_DIGEST[kind](catalogue, only).undecided)
     about = (catalogue, kinds, only)
     return _Left(left_out(*about), but_for_parts(*about, choice), but_for_notes(*about, choice), after_repair(*about))
 
 
+_BY_DIGEST = {FILE: whole_files, PIXELS: coded_pictures}
+
+
 def _asked(groups: Groups, kind: str, kinds: Sequence[str], choice: Choice, least_fields: int) -> Iterator[Group]:
     """The groups of the kind that is asked for. Raises `WrongUse`."""
-    if kind not in (PIXELS, FILE):
+    if kind not in _BY_DIGEST:
         return groups.by_meaning(kinds, choice, least_fields)
     is_of_files = kind == FILE
     if choice or least_fields:
         what = "all bytes of files" if is_of_files else "coded pictures and no fields"
         raise WrongUse(f"--kind {kind} compares {what}: leave out the options for fields")
-    about = (groups.catalogue, groups.only)
-    count = whole_files(*about).not_requested if is_of_files else coded_pictures(*about).not_requested
-    if count:
+    if count := _BY_DIGEST[kind](groups.catalogue, groups.only).not_requested:
         have = "1 picture has" if count == 1 else f"{count:,} pictures have"
         raise WrongUse(f"{have} no digest of the {'file' if is_of_files else 'coded picture'} yet: `index --pixels` adds it")
     return groups.by_file() if is_of_files else groups.by_coded_picture()
@@ -225,7 +224,7 @@ _BY = {Basis.MEANING: "by meaning", Basis.FIELDS: "by the fields that count", **
 
 def _of_left(listed: _Listed, left: _Left) -> Iterator[str]:
     """How many pictures may be the same as others by their metadata, and how many are compared after a repair alone."""
-    if left.undecided and listed.kind not in (PIXELS, FILE):
+    if left.undecided and listed.kind not in _BY_DIGEST:
         why = "can't be compared by meaning: a block is refused or unreadable, or the file was not wholly read"
         yield f"{pictures_in_words(left.undecided)} {why}"
     if left.but_for_parts:
@@ -252,8 +251,8 @@ def _compared_files(kind: str, groups: Groups) -> Iterator[str]:
     elif kind == FILE:
         files = whole_files(groups.catalogue, groups.only)
         yield f"{in_words(files.compared, 'file')} compared by all {'its' if files.compared == 1 else 'their'} bytes"
-        if files.unreadable:
-            yield f"{files.unreadable:,} not compared: {'it was' if files.unreadable == 1 else 'they were'} not read"
+        if files.unread:
+            yield f"{files.unread:,} not compared: {'it was' if files.unread == 1 else 'they were'} not read"
 
 
 def _of_absent(count: int) -> Iterator[str]:
@@ -380,11 +379,8 @@ def _print_group(number: int, group: Group, keeps: Keeps, texts: _Texts) -> None
     print(line_of("same", "group", known)[:-1], end=', "pictures": [')
     for at, picture in enumerate(group.members):
         more: Members = {"texts": listed_texts.member(texts.labels, texts.of(picture))} if texts.labels else {}
-        about = _picture_members(group, picture, keeps.get(picture.id, _without_advice(picture)))
-        print(", " * (at > 0) + json.dumps({**about, **more}), end="")
+        keep = keeps.get(picture.id, _without_advice(picture))
+        about = {"keep": keep.keep, "keep_note": keep.note() or None, "reason": group.reasons.get(picture.id) or None}
+        others = {"others": group.others.get(picture.id, 0)}
+        print(", " * (at > 0) + json.dumps({**path_members(picture.path), **about, **others, **more}), end="")
     print("]}")
-
-
-def _picture_members(group: Group, picture: PictureRecord, keep: Keep) -> Members:
-    known = {"keep": keep.keep, "keep_note": keep.note() or None, "reason": group.reasons.get(picture.id) or None}
-    return {**path_members(picture.path), **known, "others": group.others.get(picture.id, 0)}

@@ -11,8 +11,7 @@ from datetime import datetime, timezone
 from typing import BinaryIO, Callable, Iterable, Iterator, NamedTuple, Sequence
 
 from ...catalogue.store import Catalogue, NoCatalogue
-from ...comparison import verified
-from ...comparison.verified import State, looker
+from ...comparison.verified import PAYLOAD, State, Verified, fill, looker, new_files, payload, verified
 from ...files import atomic
 from ...model.errors import WrongUse
 from ...model.texts import escaped, in_words, path_members, path_or_none, shown_path
@@ -24,15 +23,6 @@ from ..options import Files, Output, Run, groups_of
 from ..output import answer, closed_folder, print_line
 
 SHOWN = 10  # files that are named of each state
-# The words of --list, and the states of the files that are listed then
-LISTS = {
-    "damaged": (State.ROTTED, State.CUT),  # besides files that were damaged before
-    "missing": (State.MISSING,),
-    "other": (State.OTHER, State.OTHER_FILE, State.NOT_LISTED_SO, State.PARTS),
-    "captioned": (State.CAPTIONED, State.AGAIN),
-    "moved": (State.MOVED, State.RENUMBERED),
-    "unknown": (State.UNREADABLE, State.NO_DIGEST),
-}
 
 
 def run(arguments: argparse.Namespace) -> int:
@@ -46,9 +36,9 @@ def run(arguments: argparse.Namespace) -> int:
         before = open_.enter_context(_of_bag(name, run)) if arguments.bag else open_.enter_context(opened(name, run))
         folders = _folders(files, arguments.bag, before)
         now, earlier = open_.enter_context(_read_again(folders, run, arguments.state, before))
-        for file in verified.verified(before, now, folders):
+        for file in verified(before, now, folders):
             told.add(file)
-        new = verified.new_files(before, now) - told.counts[State.MOVED]
+        new = new_files(before, now) - told.counts[State.MOVED]
         size, count = next(now.rows("SELECT ifnull(sum(size), 0), count(*) FROM pictures WHERE sha256 != ''"))
         sums = _Sums(new, count, size, earlier)
         is_nothing = not (count or told.counts)
@@ -85,7 +75,7 @@ class _Sums(NamedTuple):
 
 def _folders(files: Files, bag: str | None, catalogue: Catalogue) -> list[bytes]:
     """The folders to read. Raises `WrongUse`."""
-    names = named(files) if files.names or files.files_from else [verified.payload(bag)] if bag else []
+    names = named(files) if files.names or files.files_from else [payload(bag)] if bag else []
     folders = [os.path.abspath(it) for it in names] or catalogue.roots()
     for folder in folders:
         if not os.path.lexists(folder):  # as of a disk that isn't mounted: each of its files would seem to be missing
@@ -97,7 +87,7 @@ def _folders(files: Files, bag: str | None, catalogue: Catalogue) -> list[bytes]
 def _of_bag(bag: str, run: Run) -> Iterator[Catalogue]:
     """A catalogue of the manifest of a bag."""
     with Catalogue(os.path.join(run.session.room, "manifest"), make=True) as catalogue:
-        verified.fill(catalogue, bag)
+        fill(catalogue, bag)
         yield catalogue
 
 
@@ -107,7 +97,9 @@ def _read_again(folders: Sequence[bytes], run: Run, state: str | None, before: C
     stopped. With --state that run has left its catalogue for this one."""
     name = os.path.join(run.session.room, "catalogue")
     if state:
-        _check_state(state)
+        is_other = not os.path.isdir(state) or not all(it.startswith(_KEPT) for it in os.listdir(state))
+        if os.path.lexists(state) and is_other:
+            raise atomic.NotReplaced(atomic.not_written(escaped(state), "it is there, and is no state of an earlier run"))
         with contextlib.suppress(FileExistsError):
             os.mkdir(state)
         name = os.path.join(state, _KEPT)
@@ -133,12 +125,6 @@ def _remove_state(state: str | None) -> None:
         os.rmdir(state)
 
 
-def _check_state(folder: str) -> None:
-    """Raises `NotReplaced` if a name is not that of a folder in which a run that was stopped has left its state."""
-    if os.path.lexists(folder) and not (os.path.isdir(folder) and all(it.startswith(_KEPT) for it in os.listdir(folder))):
-        raise atomic.NotReplaced(atomic.not_written(escaped(folder), "it is there, and is no state of an earlier run"))
-
-
 # What is printed
 
 
@@ -151,13 +137,14 @@ class Told:
         self.old = 0  # files that were damaged before, and in which nothing else is damaged now
         self._names: dict[State | None, list[str]] = {}  # None: of files that were damaged before
 
-    def add(self, file: verified.Verified) -> None:
+    def add(self, file: Verified) -> None:
         """Counts a file, and prints it or keeps its name."""
         self.counts[file.state] += 1
         is_old = bool(file.damage and file.state.is_good)
         self.old += is_old
         if self._list:
-            if file.state in LISTS[self._list] or (self._list == "damaged" and file.damage):
+            # of damaged files also those that were so before
+            if file.state.listed == self._list or (self._list == "damaged" and file.damage):
                 _print_one(self._output, file)
         elif self._output.json:
             if file.state != State.AS_IT_WAS or is_old:
@@ -165,7 +152,7 @@ class Told:
         else:
             self._keep(file, is_old)
 
-    def _keep(self, file: verified.Verified, is_old: bool) -> None:
+    def _keep(self, file: Verified, is_old: bool) -> None:
         """Keeps the names of a file, if it is one of the first."""
         names = self._names.setdefault(file.state, [])
         words = [] if is_old and file.place is None else _words(file)
@@ -200,7 +187,7 @@ def _first(names: Sequence[str]) -> Iterator[str]:
     yield from ["              .."] * (len(names) > SHOWN)
 
 
-def _print_one(output: Output, result: verified.Verified) -> None:
+def _print_one(output: Output, result: Verified) -> None:
     """Prints an object, or the line of a file with its state."""
     known = {"state": result.state, "note": result.note or None, "place": path_or_none(result.place)}
     state = [result.state.text.removesuffix(": index --pixels adds it")] * (result.state != State.AS_IT_WAS)
@@ -208,7 +195,7 @@ def _print_one(output: Output, result: verified.Verified) -> None:
     answer(output, "verify", "picture", {**path_members(result.path), **known}, [line])
 
 
-def _words(result: verified.Verified) -> list[str]:
+def _words(result: Verified) -> list[str]:
     """What more is known of a file than its state."""
     if result.place is None:
         return [result.note] * bool(result.note)
@@ -268,7 +255,7 @@ def _bag(files: _Files, folder: bytes) -> Iterator[bytes]:
     """The manifest of a bag (RFC 8493, 2.1.3), of the files of its payload. Raises `NotReplaced`."""
     for path, digest, _ in files:
         name = os.path.relpath(path, folder)
-        if not name.startswith(verified.PAYLOAD):
+        if not name.startswith(PAYLOAD):
             raise atomic.NotReplaced(f"a bag has its files in the folder data beside the manifest, and {shown_path(path)} isn't there")
         try:
             name.decode("utf-8")

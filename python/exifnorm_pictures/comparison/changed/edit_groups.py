@@ -8,6 +8,7 @@ from dataclasses import dataclass, field
 from typing import Collection, Iterable, Sequence
 
 from ...model.found import STANDARDS
+from ...model.texts import pictures_in_words
 from ..wording import IN, KEPT, OUT, FieldDifference, Step, look
 from .edits import NUMBERED, line_of, NUMBERS, Edit, digest, edits_of, places_of, numberless
 
@@ -167,6 +168,11 @@ class Kinds:
                 counted.add(name, edits[counted.key], standards)
         return number
 
+    def notes(self) -> list[str]:
+        """What is said of pictures that aren't grouped."""
+        many = pictures_in_words(self.further)
+        return [f"More than {KINDS:,} kinds of edit: {many} more, which aren't grouped"] * bool(self.further)
+
     def _new(self, identity: tuple[bytes, ...], edits: dict[bytes, Edit]) -> int:
         """The number of a new kind, or 0 if there are too many."""
         if len(self.kinds) >= KINDS or self._edits + len(edits) > EDITS:
@@ -178,8 +184,7 @@ class Kinds:
         return len(self.kinds)
 
     def _add_name(self, kind: Kind, name: bytes) -> None:
-        has_room = len(kind.names) < self.most_names and self._names < NAMES
-        if not kind.names or has_room:
+        if not kind.names or (len(kind.names) < self.most_names and self._names < NAMES):
             self._names += bool(kind.names)
             kind.names.append(name)
 

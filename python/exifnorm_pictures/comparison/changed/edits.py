@@ -80,7 +80,7 @@ class Edit(NamedTuple):
         # what took the place of words, and what was removed, may be anywhere in a text
         first = signs[:2] == [KEPT, OUT]
         last = len(signs) - (signs[-1:] == [KEPT] and OUT in signs[max(first, len(signs) - 3) : -1])
-        return tuple(map(_bare, self.steps[first:last]))
+        return tuple(Step(it.sign, "" if it.sign == KEPT else it.text.strip() or it.text) for it in self.steps[first:last])
 
     @property
     def key(self) -> bytes:
@@ -97,11 +97,6 @@ class Edit(NamedTuple):
 def numberless(steps: Sequence[Step]) -> tuple[Step, ...]:
     """Words with `#` in place of each number."""
     return tuple(Step(it.sign, _DIGITS.sub("#", it.text)) for it in steps)
-
-
-def _bare(step: Step) -> Step:
-    text = "" if step.sign == KEPT else step.text.strip() or step.text
-    return Step(step.sign, text)
 
 
 def places_of(edit: Edit) -> list[str]:
@@ -149,8 +144,7 @@ def _add(edits: dict[bytes, Edit], edit: Edit) -> None:
         edits[key] = edit
     else:
         earlier = edits[b""].value if b"" in edits else ""
-        value = digest(f"{earlier} {key.hex()}").hex()
-        edits[b""] = Edit(FURTHER, (), "changed", value=value)
+        edits[b""] = Edit(FURTHER, (), "changed", value=digest(f"{earlier} {key.hex()}").hex())
 
 
 _Part = tuple[str, str]  # whether it came or went, and its name
@@ -172,8 +166,7 @@ def _single(changes: Sequence[FieldDifference], parts: dict[_Part, str]) -> Iter
     """The edits of single fields, and of those that are one: dates that moved, and positions that
     didn't go with a block or directory."""
     moved = shifts(changes)
-    dates = [it for fields in moved.values() for it in fields]
-    left = _without(changes, dates)
+    left = _without(changes, [it for fields in moved.values() for it in fields])
     positions = [it for it in left if _is_position(it, parts)]
     yield from (_of_dates(shift, fields) for shift, fields in moved.items())
     yield from _positions(positions) if positions else ()
@@ -307,8 +300,7 @@ def _positions(changes: Sequence[FieldDifference]) -> Iterator[Edit]:
         before, after = (", ".join(filter(None, (plain_sides(it)[at] for it in mine))) for at in (0, 1))
         steps = (Step(OUT, before),) * bool(before) + (Step(IN, after),) * bool(after)
         if steps:
-            names = tuple(it.name for it in mine)
-            yield Edit(POSITION, steps, "" if after else "removed", names, after)
+            yield Edit(POSITION, steps, "" if after else "removed", tuple(it.name for it in mine), after)
 
 
 _DATE = re.compile(r"(\d{4})[:-](\d\d)[:-](\d\d)[ T](\d\d):(\d\d)(?::(\d\d))?(.*)", re.S)
@@ -436,8 +428,7 @@ def _shown(step: Step, at: int, last: int, is_one: bool) -> Step:
 
 def _exactly(step: Step) -> Step:
     """Words with the numbers of characters that don't show, or that might be brackets."""
-    text = step.text if step.sign == KEPT else _BRACKET.sub(r"<\1>", numbered(step.text))
-    return Step(step.sign, text)
+    return step if step.sign == KEPT else Step(step.sign, _BRACKET.sub(r"<\1>", numbered(step.text)))
 
 
 def _around(text: str, has_before: bool, has_after: bool) -> str:

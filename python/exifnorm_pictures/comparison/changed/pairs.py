@@ -15,13 +15,15 @@ from ...catalogue.store import BLOCK_COLUMNS, PICTURE_COLUMNS, Catalogue, NoCata
 from ...fields.packing import fields_of, with_kept_fields
 from ...fields.field import Field
 from ...files import signals
-from ...judge.sides import Sides
+from ...judge.sides import AFTER, BEFORE, Sides
 from ...model.records import PICTURES, BlockRecord, PictureRecord, block_of_row, not_read_of_row, picture_of_row
 from ...model.columns import Damaged
 from ...model.found import NotRead
 from ...model.problems import NOT_THERE
+from ...model.texts import grouped
 from ...scan.moved import content_key
 from ..coded import SAME_REST, SQL, Coded
+from .states import Pair
 
 # Pictures of two folders in pairs by their names without the ending: a master and its copy for the web.
 
@@ -102,9 +104,7 @@ def _paired(before: Iterable[File], after: Iterable[File], key: Callable[[File],
 
 def _nearest(files: Sequence[File], others: Sequence[File]) -> set[tuple[File, File]]:
     """Each of some files with the only one of the nearest format."""
-    places = defaultdict(list)
-    for other in others:
-        places[_place(other)].append(other)
+    places = grouped((_place(it), it) for it in others)
     found = set()
     for file in files if places else ():
         least = min(abs(place - _place(file)) for place in places)
@@ -118,7 +118,6 @@ def _place(file: File) -> int:
     return _PLACES.get(file.type, _OTHERS)
 
 
-BEFORE, AFTER = 0, 1  # the two sides
 _BASES, _ALIASES = ("before", "after"), ("old", "new")
 
 # What is written goes to a temporary database, which is deleted with its connection: all pictures of an archive may have moved.
@@ -183,20 +182,6 @@ _HAS_KEY = " AND ".join(
 _PARTNER = 2  # in place of `is_edited`
 
 Made = TypeVar("Made")
-
-
-class Pair(NamedTuple):
-    """A picture that was there before, what it is now, and where it is now if it has moved. It has both pictures if it was edited too."""
-
-    name: bytes
-    old: PictureRecord | None  # None if the other one is: then no more is known than the name
-    new: PictureRecord | None
-    place: bytes | None
-    is_renumbered: bool = False  # whether another picture had its new name, or has its old one
-    is_sure: bool = True  # whether a move is known by the file itself, and not by what it has
-    is_partner: bool = False  # the new picture is the one with the same stem
-    is_unclear: bool = False  # it has one of several
-    coded: Coded = Coded.UNKNOWN  # of a picture that is elsewhere as it was
 
 
 def shown_form(name: bytes) -> bytes:
@@ -401,7 +386,9 @@ class Pairs(Sides):
         is_one = to is not None and shown_form(to) == shown_form(name)
         is_read = bool(is_edited or is_one)  # whether the picture under the other name is compared
         if row[PICTURES.width] is None and not is_read:
-            return _without_pictures(name, to, row)
+            is_unclear, is_sure, is_renumbered = map(bool, (row[-7], row[-3], row[-2]))
+            has_new_name = all((to is not None, is_renumbered))
+            return Pair(name, None, None, to, has_new_name, is_sure, is_unclear=is_unclear, coded=Coded(str(row[-1])))
         new = row[PICTURES.width : 2 * PICTURES.width]
         if is_read:
             new = self.base.execute(f"SELECT {PICTURE_COLUMNS} FROM after.pictures WHERE id = ?", (moved,)).fetchone()
@@ -479,12 +466,6 @@ class Pairs(Sides):
         with self._guarded():
             for row in self.base.execute(query):
                 yield factory(row)
-
-
-def _without_pictures(name: bytes, to: bytes | None, row: tuple[object, ...]) -> Pair:
-    """A picture that isn't there, or is elsewhere as it was."""
-    is_unclear, is_sure, is_renumbered = (bool(row[at]) for at in (-7, -3, -2))
-    return Pair(name, None, None, to, to is not None and is_renumbered, is_sure, is_unclear=is_unclear, coded=Coded(str(row[-1])))
 
 
 def _is_there(alias: str) -> str:

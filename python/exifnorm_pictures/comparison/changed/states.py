@@ -5,37 +5,36 @@ from __future__ import annotations
 import contextlib
 import hashlib
 import heapq
-import sqlite3
 from collections import Counter
 from enum import IntEnum
-from typing import TYPE_CHECKING, Iterable, Iterator, NamedTuple, Optional, Sequence
+from typing import TYPE_CHECKING, Iterable, Iterator, Optional, Sequence
 
-from ...catalogue.store import Catalogue
+from exifnorm._named import NamedTuple
+
 from ...fields.choosing import EVERYTHING, Choice
 from ...fields.listing import MAKER_NOTE
 from ...fields.names import group_name, group_of
 from ...files.session import Session
-from ...judge.sides import Sides
+from ...judge.sides import AFTER, BEFORE, Sides
 from ...model import steps
 from ...model.budgets import COMPARED_FIELDS, WAITING_BYTES
 from ...model.found import EXIF, NAMES, OWN, PROGRAMS, hidden_kinds, lost_kinds
 from ...model.records import REACHED, BlockRecord, PictureRecord, Status, is_same_file
 from ...model.rest import counting
-from ...model.steps import Step
 from ...model.problems import Problem
 from ...model.texts import Result
 from ...model.verdicts import Judged, Turns, Verdict, left_open, verdicts
 from ..coded import Coded, coded_result as result_of_coded, parts_that_differ, result_with
 from ..wording import FieldDifference, differences
-from .pairs import AFTER, BEFORE, Pair, Pairs
 
 if TYPE_CHECKING:
+    from ...catalogue.store import Catalogue
     from ...judge import maker_notes
 
 # The blocks of two pictures in pairs of one name: the fields that differ, how much each of them weighs, and how the blocks are read.
 
 Block = Optional[BlockRecord]
-Repair = tuple[str, tuple[Step, ...], tuple[Step, ...]]  # the name of a block, and the steps before and after
+Repair = tuple[str, tuple[steps.Step, ...], tuple[steps.Step, ...]]  # the name of a block, and the steps before and after
 Lost = Sequence[Sequence[str]]  # the kinds of blocks that may be missing of each of two damaged files
 NOTHING: Lost = ((), ())
 
@@ -368,6 +367,20 @@ def _note_moved(before: Noted, notes: _Notes, has_more: bool) -> Noted:
     return Noted(judged, judged.result, changes, "MakerNote moved, reads the same (ExifTool)", [])
 
 
+class Pair(NamedTuple):
+    """A picture that was there before, what it is now, and where it is now if it has moved. It has both pictures if it was edited too."""
+
+    name: bytes
+    old: PictureRecord | None  # None if the other one is: then no more is known than the name
+    new: PictureRecord | None
+    place: bytes | None
+    is_renumbered: bool = False  # whether another picture had its new name, or has its old one
+    is_sure: bool = True  # whether a move is known by the file itself, and not by what it has
+    is_partner: bool = False  # the new picture is the one with the same stem
+    is_unclear: bool = False  # it has one of several
+    coded: Coded = Coded.UNKNOWN  # of a picture that is elsewhere as it was
+
+
 class Compared(NamedTuple):
     """One picture before and after."""
 
@@ -379,7 +392,7 @@ class Compared(NamedTuple):
     moved_to: bytes | None = None
     partner: bytes | None = None  # the picture with the same stem with which it was compared
     maker_note: "Optional[list[maker_notes.NoteDifference]]" = None  # the values that ExifTool reads otherwise, if it was asked
-    repairs: Sequence[tuple[str, tuple[Step, ...], tuple[Step, ...]]] = ()  # of each block, before and after
+    repairs: Sequence[tuple[str, tuple[steps.Step, ...], tuple[steps.Step, ...]]] = ()  # of each block, before and after
     left_out: Sequence[str] = ()  # fields and kinds that differ and don't count
     picture: Coded = Coded.UNKNOWN  # what is known of the coded picture
     parts: Sequence[str] = ()  # what has come, gone or changed of the rest of the file
@@ -404,6 +417,8 @@ def changed(
     Those that are the same are only counted, unless `every` is set. In a session ExifTool is asked for the values of MakerNotes. Fields that the
     choice leaves out don't count. `by_stem` compares pictures whose names differ only in folders and endings. In the end `counts` has the number of each result, and `pictures` those of the coded pictures.
     """
+    from .pairs import Pairs  # which needs the modules of catalogues
+
     with contextlib.closing(Pairs(before, after, only, by_stem)) as pairs:
         there = 0
         differing = (compared(pair, pairs, session, choice) for pair in pairs.differing(every))
@@ -546,7 +561,7 @@ def _by_digests(old: PictureRecord, new: PictureRecord, sides: Sides) -> tuple[J
         (*lost_kinds(it.type, [part.what for part in parts]), *hidden_kinds(parts, others))
         for it, parts, others in zip((old, new), unread, unread[::-1])
     ]
-    missing = [_absent(*it) for it in zip((old, new), lost)]
+    missing = list(map(_absent, (old, new), lost))
     return Judged(tuple(_not_known(it, missing, is_alike) for it in by_kind), tuple(left_open(*unread))), lost
 
 
@@ -589,11 +604,9 @@ def _details(judged: Judged, old: PictureRecord, new: PictureRecord, sides: Side
         return Details(), []
     blocks = sides.blocks(BEFORE, old), sides.blocks(AFTER, new)
     kinds = [it.kind for it in judged.verdicts if it.result not in (Result.LEFT_OUT, Result.NOT_KNOWN)]
-    return details_of(blocks, kinds, sides, choice, lost) if looked_at else Details(), _programs(blocks)
-
-
-def _programs(blocks: Sequence[Sequence[BlockRecord]]) -> list[str]:
-    return [f"extracted by {PROGRAMS[it]}" for it in PROGRAMS if any(block.extractor == it for side in blocks for block in side)]
+    used = {block.extractor for block in (*blocks[0], *blocks[1])}
+    programs = [f"extracted by {word}" for it, word in PROGRAMS.items() if it in used]
+    return details_of(blocks, kinds, sides, choice, lost) if looked_at else Details(), programs
 
 
 def total(counts: "Counter[Result]") -> int:
@@ -619,6 +632,8 @@ class Equal:
     _MOST = 1000  # rows that are written at once, or fewer if they are long, and changes that are looked up in memory
 
     def __init__(self) -> None:
+        import sqlite3  # which takes long to import
+
         self.base = sqlite3.connect("", isolation_level=None)
         self.base.executescript(_EQUAL)
         self._known: dict[bytes, int] = {}
@@ -668,13 +683,11 @@ class Equal:
         self.base.execute("CREATE INDEX names_by_head ON names (head, name)")
         order = "rank, pictures DESC, id" if by_rank else "id"
         count_of = "(SELECT count(*) FROM names WHERE head = heads.id) AS pictures"
+        names = "SELECT name FROM names WHERE head = ? ORDER BY name"
         about = "SELECT text, (SELECT min(name) FROM names WHERE head = heads.id) FROM heads WHERE id = ?"
         for number, count in self.base.execute(f"SELECT id, {count_of} FROM heads ORDER BY {order}"):
             text, first = self.base.execute(about, (number,)).fetchone()  # which may be long, and aren't sorted
-            yield text, count, iter([first]) if count == 1 else self._named(number)
-
-    def _named(self, number: int) -> Iterator[bytes]:
-        return (it[0] for it in self.base.execute("SELECT name FROM names WHERE head = ? ORDER BY name", (number,)))
+            yield text, count, iter([first]) if count == 1 else (it[0] for it in self.base.execute(names, (number,)))
 
 
 _EQUAL = """

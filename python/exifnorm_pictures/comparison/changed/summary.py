@@ -10,65 +10,16 @@ from typing import Iterable, Iterator, NamedTuple, Sequence
 
 from ...catalogue.store import Catalogue
 from ...fields.choosing import EVERYTHING, Choice
+from ...judge.sides import AFTER
 from ...model.found import NAMES
 from ...model.errors import WrongUse
 from ...model.problems import NOT_THERE
 from ...model.texts import Result, in_words, pictures_in_words, shown_path
-from ...scan.moved import deepest, shared_folder
+from ...scan.moved import MovedFolders
 from ..wording import moved
 from .edit_groups import Group, Kinds, Lacking
-from .pairs import AFTER, Pairs, heads_of
+from .pairs import Pairs, heads_of
 from .states import Compared, changed, number_changed, number_undecided, total as total_of
-
-MOST = 10_000  # pairs of folders that are counted
-
-
-class MovedFolder(NamedTuple):
-    """A folder that has another place now, and how many of its pictures."""
-
-    old: bytes
-    new: bytes
-    pictures: int
-
-
-def folders_of(name: bytes, place: bytes) -> tuple[bytes, bytes]:
-    """The two folders between which a picture moved, without what they have in common at their end.
-
-    >>> folders_of(b"a/x/1.jpg", b"b/x/1.jpg"), folders_of(b"a/1.jpg", b"b/2.jpg")
-    ((b'a', b'b'), (b'', b''))
-    """
-    old, new = name.split(b"/"), place.split(b"/")
-    if old[-1] != new[-1]:
-        return b"", b""  # it has another name, too
-    while len(old) > 1 and len(new) > 1 and old[-1] == new[-1]:
-        del old[-1], new[-1]
-    if old[-1] == new[-1]:  # one of them is the folder that was indexed
-        del old[-1], new[-1]
-    return b"/".join(old), b"/".join(new)
-
-
-class MovedFolders:
-    """Counts the pictures that moved, by their folders."""
-
-    def __init__(self) -> None:
-        self._counts: "Counter[tuple[bytes, bytes]]" = Counter()
-        self._shared: dict[tuple[bytes, bytes], bytes] = {}
-
-    def add(self, name: bytes, place: bytes) -> None:
-        """Counts a picture that moved."""
-        pair = folders_of(name, place)
-        if pair != (b"", b"") and (pair in self._counts or len(self._counts) < MOST):
-            self._counts[pair] += 1
-            self._shared[pair] = shared_folder(self._shared.get(pair), name)
-
-    def count(self, name: bytes, place: bytes) -> int:
-        """How many pictures moved as this one did, to another folder with the same name."""
-        return self._counts.get(folders_of(name, place), 0)
-
-    def lines(self) -> list[MovedFolder]:
-        """The folders from which two and more pictures moved to another one, those of the most pictures first."""
-        return [MovedFolder(*deepest(pair, self._shared[pair]), count) for pair, count in self._counts.most_common() if count > 1]
-
 
 NOW = b"\0"  # between the name of a picture that moved and its new one: no name has it
 _NOT_THERE = (Result.ABSENT, Result.MISSING_AFTER)
@@ -285,12 +236,7 @@ def _places(name: bytes, catalogues: Sequence[Catalogue]) -> list[_Place]:
 def _named(catalogue: Catalogue, name: bytes) -> bytes | None:
     """The path of the picture with this name in a catalogue."""
     paths = dict.fromkeys([os.path.abspath(name), os.path.normpath(os.path.join(*heads_of([catalogue]), name))])
-    return next((it for it in paths if _is_there(catalogue, it)), None)
-
-
-def _is_there(catalogue: Catalogue, path: bytes) -> bool:
-    known = catalogue.known(path)
-    return known is not None and known.problem not in NOT_THERE
+    return next((it for it in paths if (known := catalogue.known(it)) and known.problem not in NOT_THERE), None)
 
 
 def _place(catalogue: Catalogue, other: Catalogue, place: _Place) -> _Place:

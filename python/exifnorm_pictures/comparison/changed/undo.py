@@ -36,17 +36,21 @@ def arguments(place: bytes, changes: Sequence[FieldDifference]) -> tuple[list[by
     """
     by_charset: dict[bool, list[str]] = {True: [], False: []}
     left = []
-    for change in filter(_has_text, changes):
-        words = None if _is_left(change) or set(b"\r\n") & set(place) else _words(change)
+    for change in changes:
+        label = _label(change)
+        if not label and change[:2] != _DECLARED:
+            continue
+        # ExifTool has no argument for a field of a further block, or of a namespace without a prefix
+        is_left = bool(change.block) or label in _LEFT or change.name.startswith("XMP:")
+        words = None if is_left or set(b"\r\n") & set(place) else _words(change)
         if words is None:
             left.append(change.name)
         else:
             by_charset[all(map(_is_utf8, change.before))] += words
-    name = place if place.startswith(b"/") else b"./" + place  # which is no option
+    name = b"./" * (not place.startswith(b"/")) + place  # which is no option
     lines = []
     for is_utf8_, words in by_charset.items():
-        given = ["-E", *_CHARSETS[is_utf8_], *words]
-        lines += [*map(str.encode, given), name, b"-execute"] * bool(words)
+        lines += [*map(str.encode, ("-E", *_CHARSETS[is_utf8_], *words)), name, b"-execute"] * bool(words)
     return lines, left
 
 
@@ -54,16 +58,6 @@ def _label(change: FieldDifference) -> str:
     """The label of a field, also of one in a directory or a block where few programs have it."""
     named = labels.label_of_fields().get(change.name.partition(" (")[0])
     return named or labels.LABELLED.get(change[:2]) or ""
-
-
-def _has_text(change: FieldDifference) -> bool:
-    """Whether a field has a text of a label, or says how the texts of IPTC are written."""
-    return bool(_label(change)) or change[:2] == _DECLARED
-
-
-def _is_left(change: FieldDifference) -> bool:
-    """Whether ExifTool has no argument for a field: of a further block, or of a namespace without a prefix."""
-    return bool(change.block) or _label(change) in _LEFT or change.name.startswith("XMP:")
 
 
 def _is_utf8(field: Field) -> bool:

@@ -6,7 +6,7 @@ import hashlib
 import os
 from collections import Counter
 from dataclasses import dataclass, field
-from typing import Iterable, Iterator, Mapping, NamedTuple
+from typing import Iterable, Iterator, Mapping
 
 from ...catalogue.checking import Broken, Checked
 from ...catalogue.kept_texts import rows_of
@@ -14,11 +14,10 @@ from ...catalogue.store import Catalogue
 from ...fields.labels import POSITION, fields_by_label
 from ...files.session import Session
 from ...model.problems import NOT_READABLE, Problem
-from ...model.texts import Result, whole_path
-from ...model.words import Word
+from ...model.texts import Result, Word, whole_path
 from ...model.records import PictureRecord, Stamp
 from ...model.rest import counting
-from ...scan.moved import Paths, moved_together
+from ...scan.moved import MovedFolders, Paths
 from ..changed.edit_groups import Kinds
 from ..changed.states import Compared, changed, total
 from ..changed.summary import standards_of
@@ -29,39 +28,40 @@ SHOWN = 3  # pictures of each kind of news that are named
 
 
 class Kind(Word):
-    """A kind of news. A letter has them in this order."""
+    """A kind of news, and what is said of one picture, and of several; {} is what the news is about. A letter has them in this order."""
 
+    one: str
+    many: str
     is_open: bool  # whether something can't be decided tonight that could be at the last whole night
 
-    ABSENT = ("folder not there", True)
-    CLOSED = ("folder not readable", True)
-    LOST = ("text lost",)
-    POSITION = ("position",)
-    DAMAGED = ("damaged",)
-    RULE = ("rule broken",)
-    OTHER_PICTURE = ("other picture",)
-    PARTS = ("other parts",)  # a part of the file came, went or changed, and the coded picture isn't known to have
-    UNREADABLE = ("not readable", True)
-    OPEN = ("not comparable", True)
-    UNREAD = ("not wholly read", True)  # so that it may break a rule
-    CHANGED = ("text changed",)
-    ADDED = ("text added",)
-    OTHER = ("other fields",)
-    WRITTEN = ("other bytes",)  # of a file of a format that isn't read
-    UNSEEN = ("other bytes, the same metadata",)  # of a format whose pictures aren't read
-    GONE = ("gone",)
-    MOVED_FOLDER = ("folder moved",)
-    MOVED = ("moved",)
-    RENUMBERED = ("renumbered",)
-    NEW = ("new",)
-    READABLE = ("readable again",)
-
-
-class Named(NamedTuple):
-    """A picture by its name, and its new name if it has moved."""
-
-    path: bytes
-    to: bytes | None = None
+    ABSENT = ("folder not there", "", "", True)
+    CLOSED = ("folder not readable", "", "", True)
+    LOST = ("text lost", "lost its {}", "lost their {}")
+    POSITION = ("position", "shows where it was taken", "show where they were taken")
+    DAMAGED = ("damaged", "is damaged", "are damaged")
+    RULE = ("rule broken", "breaks {}", "break {}")
+    OTHER_PICTURE = ("other picture", "has another picture", "have another picture")
+    # a part of the file came, went or changed, and the coded picture isn't known to have
+    PARTS = ("other parts", "with {}", "with {}")
+    UNREADABLE = ("not readable", "can't be read", "can't be read", True)
+    OPEN = ("not comparable", "can't be fully compared", "can't be fully compared", True)
+    UNREAD = ("not wholly read", "was not wholly read, and may break a rule", "were not wholly read, and may break a rule", True)
+    CHANGED = ("text changed", "has another {}", "have another {}")
+    ADDED = ("text added", "now has a {}", "now have a {}")
+    OTHER = ("other fields", "has other fields changed", "have other fields changed")
+    # of a file of a format that isn't read, and of one whose pictures aren't read
+    WRITTEN = ("other bytes", "was written to, and isn't read", "were written to, and aren't read")
+    UNSEEN = (
+        "other bytes, the same metadata",
+        "was written to, and its picture isn't read",
+        "were written to, and their pictures aren't read",
+    )
+    GONE = ("gone", "is gone", "are gone")
+    MOVED_FOLDER = ("folder moved", "moved with its folder", "moved with their folder")
+    MOVED = ("moved", "moved", "moved")
+    RENUMBERED = ("renumbered", "renumbered", "renumbered")
+    NEW = ("new", "is new", "are new")
+    READABLE = ("readable again", "can be read again", "can be read again")
 
 
 @dataclass
@@ -71,7 +71,7 @@ class News:
     kind: Kind
     about: str = ""  # or a part of files and what became of it
     count: int = 0
-    names: list[Named] = field(default_factory=list)  # the first ones
+    names: list[tuple[bytes, bytes | None]] = field(default_factory=list)  # the first ones, each with its new name if it has moved
     to: str = ""  # the new place of a folder
 
 
@@ -86,7 +86,7 @@ class Tally:
         news = self._news.setdefault((kind, about, folder_to), News(kind, about, to=folder_to))
         news.count += count
         if len(news.names) < SHOWN:
-            news.names.append(Named(name, to))
+            news.names.append((name, to))
 
     def all(self) -> list[News]:
         """The news, the first kind first, and of each kind what is about the most pictures."""
@@ -215,12 +215,13 @@ class Between:
     # Once all are compared
 
     def _settle(self) -> None:
-        together = moved_together(self.moves)
-        for (old, new), paths in together.items():
-            self.tally.add(Kind.MOVED_FOLDER, self.shown(old, 0), whole_path(old), self.shown(new), len(paths), whole_path(new))
-        in_folders = {path for paths in together.values() for path in paths}
+        folders = MovedFolders()
+        for both in self.moves.items():
+            folders.add(*both)
+        for old, new, pictures in folders.lines():
+            self.tally.add(Kind.MOVED_FOLDER, self.shown(old, 0), whole_path(old), self.shown(new), pictures, whole_path(new))
         for old, new in self.moves.items():
-            if old not in in_folders:
+            if folders.count(old, new) < 2:
                 self.tally.add(Kind.RENUMBERED if old in self._renumbered else Kind.MOVED, self.shown(old, 0), "", self.shown(new))
         for folder in self.absent.settled():
             if folder.is_held:

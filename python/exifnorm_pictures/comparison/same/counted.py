@@ -80,31 +80,19 @@ def _counted(row: tuple[Any, ...], choice: Choice) -> _Counted:
     if packed is None:
         own = f"whole {digest}" if status == Status.ACCEPTED else None  # its fields aren't kept, so all of it counts
         return _Counted(kind_of(word), name, own, own, meaning, "", own or "")
-    fields = list(map(_with_exact_xmp, unpacked(packed)))
+    # in the exact value of XMP the members of a list without an order have one
+    fields = [it._with_content(exact(it)) if it.directory == "xmp" else it for it in unpacked(packed)]  # type: ignore[arg-type]
     counting = choice.of(fields, other_name(name))
     counted = _digest(counting, choice)
     accepted = counted if status == Status.ACCEPTED else None
-    repaired = counted if _loses_nothing(repair) else accepted
-    other = _of_others(counting, choice) if any(map(_is_note, fields)) else counted
-    return _Counted(kind_of(word), name, accepted, repaired, meaning, _sum_of(fields), other)
-
-
-def _loses_nothing(repair: str | None) -> bool:
-    return repair is not None and not steps.loses(steps.unpacked(repair))
+    has_loss = repair is None or steps.loses(steps.unpacked(repair))
+    others = [it for it in counting if not _is_note(it)]
+    other = _digest(others, choice) or "no other field" if any(map(_is_note, fields)) else counted
+    return _Counted(kind_of(word), name, accepted, accepted if has_loss else counted, meaning, _sum_of(fields), other)
 
 
 def _is_note(field: Field) -> bool:
     return (field.directory, field.tag) == MAKER_NOTE
-
-
-def _of_others(counting: Sequence[Field], choice: Choice) -> str:
-    """The digest of the fields that count beside a MakerNote."""
-    return _digest([it for it in counting if not _is_note(it)], choice) or "no other field"
-
-
-def _with_exact_xmp(field: Field) -> Field:
-    """A field, one of XMP with its exact value, in which the members of a list without an order have one."""
-    return field._with_content(exact(field)) if field.directory == "xmp" else field  # type: ignore[arg-type]
 
 
 def _digest(fields: Sequence[Field], choice: Choice) -> str:

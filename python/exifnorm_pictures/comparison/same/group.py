@@ -13,8 +13,7 @@ from ...model import rest
 from ...model.found import EXIF, KINDS, NAMES, XMP, XMP_FILE, lost_kinds
 from ...model.records import PictureRecord
 from ...model.problems import Problem
-from ...model.texts import Result, grouped, whole_path
-from ...model.words import Word
+from ...model.texts import Result, Word, grouped, whole_path
 from ...model.verdicts import clause, none_of, with_verb
 
 
@@ -297,10 +296,7 @@ def _equals(key: _Key, pictures: Sequence[PictureRecord]) -> _Equals:
     is_file = key[0] == "file"
     fullest: rest.Fullest[PictureRecord] = rest.Fullest()
     stays_for = {it.id: pictures[0] if is_file else fullest.has_all_of(it, it.beside) for it in pictures}
-    goes: dict[int, list[PictureRecord]] = {}
-    for it in pictures:
-        if stays_for[it.id] is not it:
-            goes.setdefault(stays_for[it.id].id, []).append(it)
+    goes = grouped((stays_for[it.id].id, it) for it in pictures if stays_for[it.id] is not it)
     has_equal_bytes = is_file or len({it.sha256 or it.id for it in pictures}) == 1
     return _Equals(pictures, stays_for, goes, has_equal_bytes)
 

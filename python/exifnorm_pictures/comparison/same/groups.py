@@ -207,26 +207,27 @@ def _fields_of(catalogue: Catalogue, group: Group, choice: Choice) -> int | None
     return None if group.members[0].file else count
 
 
-class CodedPictures(NamedTuple):
-    """How many pictures have a digest of their coded picture, how many have none and why, and of how many it wasn't requested."""
+class Compared(NamedTuple):
+    """How many pictures or files have a digest, of how many it wasn't requested, and how many have none, and why."""
 
     compared: int
-    other: int
-    damaged: int
     not_requested: int
     unread: int
+    other: int = 0  # of formats without one
+    damaged: int = 0
 
     @property
     def undecided(self) -> int:
-        """How many may show what another one shows."""
-        return self.other + self.damaged + self.unread
+        """How many may be the same as another one."""
+        return self.unread + self.other + self.damaged
 
 
-def coded_pictures(catalogue: Catalogue, only: str | None = None) -> CodedPictures:
+def coded_pictures(catalogue: Catalogue, only: str | None = None) -> Compared:
     """The pictures of a catalogue by what is known of their coded pictures. A file of XMP shows nothing."""
-    conditions = ("!= ''", "= '' AND damage = '' AND type IS NOT 'XMP'", "= '' AND damage != ''", "IS NULL")
+    conditions = ("!= ''", "IS NULL", "= '' AND damage = '' AND type IS NOT 'XMP'", "= '' AND damage != ''")
     counts = (_number_of(catalogue, f"problem IS NULL AND coded_picture {it}", only) for it in conditions)
-    return CodedPictures._make([*counts, _number_of(catalogue, _UNREAD, only)])
+    compared, not_requested, other, damaged = counts
+    return Compared(compared, not_requested, _number_of(catalogue, _UNREAD, only), other, damaged)
 
 
 def _among(only: str | None) -> str:
@@ -237,27 +238,19 @@ def _number_of(catalogue: Catalogue, where: str, only: str | None) -> int:
     return catalogue.number_of(f"SELECT count(*) FROM pictures WHERE {where}{_among(only)}")
 
 
-class WholeFiles(NamedTuple):
-    """How many files have a digest of all their bytes, how many have none because they couldn't be read, and of how many it wasn't requested."""
-
-    compared: int
-    unreadable: int
-    not_requested: int
-
-
-def whole_files(catalogue: Catalogue, only: str | None = None) -> WholeFiles:
+def whole_files(catalogue: Catalogue, only: str | None = None) -> Compared:
     """The files of a catalogue by what is known of their bytes."""
-    words = ("!= ''", "IS NOT NULL AND sha256 = '' OR (sha256 IS NULL AND problem IS NOT NULL)", "IS NULL AND problem IS NULL")
-    return WholeFiles(*(_number_of(catalogue, _whole(it), only) for it in words))
+    words = ("!= ''", "IS NULL AND problem IS NULL", "IS NOT NULL AND sha256 = '' OR (sha256 IS NULL AND problem IS NOT NULL)")
+    return Compared(*(_number_of(catalogue, _whole(it), only) for it in words))
 
 
 def _whole(words: str) -> str:
     return f"ifnull(problem, '') NOT IN {NOT_THERE} AND (sha256 {words})"
 
 
-def totals(catalogue: Catalogue, kinds: Sequence[str] = KINDS, only: str | None = None, choice: Choice = EVERYTHING) -> tuple[int, int]:
+def totals(catalogue: Catalogue, only: str | None = None, choice: Choice = EVERYTHING) -> tuple[int, int]:
     """The number of groups by meaning, and of files in them, by the catalogue alone: no file is looked at."""
-    query = next(_queries([it for it in kinds if it in choice.kinds], only))
+    query = next(_queries([it for it in KINDS if it in choice.kinds], only))
     file = "CASE WHEN inode > 0 THEN inode || ' ' || device || ' ' || size || ' ' || modified ELSE id END"  # which further names have, too
     of_files = f"SELECT count(DISTINCT {file}) AS n FROM {_table(catalogue, choice)} WHERE {query.where}"
     inner = f"{of_files} GROUP BY {', '.join(query.key)} HAVING n > 1"

@@ -13,9 +13,8 @@ from ...model.budgets import EXTENTS, Budget, budget_of
 from ...model.found import EXIF, Blocks, Broken, LeftToOthers, NotRead
 from ...model.tiff_types import HEADS, LONG
 from ..structure import gaps
-from . import canon
 from .boxes import XMP_UUID, Box, Fields, add_xmp, boxes, boxes_of_file, content, leave_cut
-from .canon import CMT1, CMT2, CMT3, CMT4
+from .canon import CMT1, CMT2, CMT3, CMT4, CNCV, UUID, parts
 from .streams import Stream, digest_of_parts, is_blank, leave, size_of
 from .tiff_directories import IN_ENTRY, NOWHERE, Directories, Directory, Entry, Layout, Table, is_pointer
 
@@ -137,7 +136,7 @@ _WITHOUT = frozenset(b"ftyp mdat free skip wide".split())
 _WITHOUT_IN_MOVIE = frozenset((b"mvhd", b"free"))
 _BELOW_TRACK = frozenset((b"mdia", b"minf", b"stbl"))
 _PIXELS = b"CRAW"
-_NAMES = {canon.CMT2: "CMT2", canon.CMT3: "the MakerNote", canon.CMT4: "CMT4"}  # of blocks that can't be one with CMT1
+_NAMES = {CMT2: "CMT2", CMT3: "the MakerNote", CMT4: "CMT4"}  # of blocks that can't be one with CMT1
 
 
 def is_cr3(head: bytes) -> bool:
@@ -172,15 +171,15 @@ def read(stream: Stream, whole: bool = False) -> Blocks:
 def _movie(blocks: Blocks, stream: Stream, moov: Box) -> None:
     structures: dict[bytes, Box] = {}
     for box in boxes(stream, moov.start, moov.end):
-        if box.uuid == canon.UUID and not structures:
-            structures = canon.parts(blocks, stream, box)
+        if box.uuid == UUID and not structures:
+            structures = parts(blocks, stream, box)
         elif box.kind == b"trak":
             _Track(blocks, stream, box).take()
         elif box.kind not in _WITHOUT_IN_MOVIE:
             leave(blocks, f"{box.name} in moov", stream, box.start, box.end)
-    if canon.CMT1 not in structures:
+    if CMT1 not in structures:
         raise Broken("the file has no CMT1 box")
-    version = structures.pop(canon.CNCV, None)
+    version = structures.pop(CNCV, None)
     if version is not None and not content(stream, version).startswith(b"CanonCR3"):
         raise LeftToOthers("a film of Canon")
     _add_exif(blocks, stream, structures)
@@ -192,7 +191,7 @@ def _add_exif(blocks: Blocks, stream: Stream, canon_boxes: dict[bytes, Box]) -> 
     block = one_block(structures, blocks.budget)
     if block is not None:
         names = ", ".join(it.decode("ascii") for it in sorted(structures))
-        blocks.add(EXIF, block, f"boxes {names} at {canon_boxes[canon.CMT1].at}")
+        blocks.add(EXIF, block, f"boxes {names} at {canon_boxes[CMT1].at}")
         return
     for kind, data in structures.items():
         blocks.add(EXIF, data, f"{canon_boxes[kind].name} at {canon_boxes[kind].at}", _NAMES.get(kind, ""))

@@ -69,7 +69,7 @@ class _Reader:
             self._piece, self._start, first = self.stream.read(max(PIECE, length)), self.at, 0
         octets = self._piece[first : first + length]
         if len(octets) < length:
-            raise Broken(f"the file ends inside the {length} bytes at {self.at}")
+            raise Broken(f"the file ends inside the {length} byte{'s' * (length > 1)} at {self.at}")
         self.at += length
         return octets
 

@@ -3,10 +3,10 @@ reads them, and its blocks, as the library joins them."""
 
 from __future__ import annotations
 
-from typing import NamedTuple
 
 import exifnorm
 from exifnorm._jpeg import PART_KINDS, PartRow, rows_or_fault, whole_blocks
+from exifnorm._named import NamedTuple
 
 from ...model.budgets import SEGMENTS, SEGMENT_BYTES, Budget
 from .streams import COMMENT, PROFILE, HEAD, Stream

@@ -59,8 +59,7 @@ def resources(data: bytes, most: int = LIMITS[RESOURCES]) -> tuple[list[exifnorm
         rows = exifnorm.photoshop_resources(data, most)
     except exifnorm.TooMany:
         raise TooMuch(f"more than {most:,} {RESOURCES}") from None
-    end = rows[-1].start + rows[-1].size + rows[-1].size % 2 if rows else 0
-    rest = data[end:]
+    rest = data[rows[-1].start + rows[-1].size + rows[-1].size % 2 :] if rows else data
     return rows, rest if rest.strip(b"\0") else b""
 
 

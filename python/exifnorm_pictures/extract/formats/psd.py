@@ -80,11 +80,6 @@ def _add_resources(blocks: Blocks, stream: Stream, at: int, end: int) -> None:
     leave(blocks, "bytes behind the Photoshop resources in the image resources", stream, at, end)
 
 
-def _sum(data: bytes, wide: int, code: str) -> int:
-    """The sum of the numbers in a piece of a table."""
-    return sum(struct.unpack(f">{len(data) // wide}{code}", data[: len(data) // wide * wide]))
-
-
 def _end_of_picture(header: _Header, stream: Stream, at: int) -> int | None:
     """Where the merged picture ends, which is the last part of a whole file; None if it isn't known."""
     compression = int.from_bytes(read_at(stream, at, 2), "big")
@@ -93,9 +88,10 @@ def _end_of_picture(header: _Header, stream: Stream, at: int) -> int | None:
     if compression == _RAW:
         return start + rows * ((header.width * header.depth + 7) // 8)
     elif compression == _PACKED and rows <= STRIPS:
-        wide, code = (4, "I") if header.version == _BIG else (2, "H")
+        wide = 4 if header.version == _BIG else 2
         table = start + rows * wide  # of the lengths of the rows, which follow it
-        return table + sum(_sum(it, wide, code) for it in pieces(stream, start, table))
+        lengths = (it[at : at + wide] for it in pieces(stream, start, table) for at in range(0, len(it) - wide + 1, wide))
+        return table + sum(int.from_bytes(it, "big") for it in lengths)
     return None
 
 

@@ -10,10 +10,12 @@ from collections import deque
 from heapq import heappop, heappush
 from itertools import accumulate
 from operator import itemgetter, le
-from typing import Callable, Iterable, Iterator, NamedTuple, Protocol, Sequence
+from typing import Callable, Iterable, Iterator, Protocol, Sequence
+
+from exifnorm._named import NamedTuple
 
 from ...files import opening
-from ...files.copying import is_hollow
+from ...files.opening import is_hollow
 from ...model.budgets import BYTES_READ, HOLES, Budget, budget_of
 from ...model.found import Blocks, Broken, NotRead
 from ...model.texts import grouped, in_words

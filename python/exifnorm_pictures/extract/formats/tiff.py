@@ -111,8 +111,7 @@ class Private:
     def _sony(self, entry: Entry, what: str) -> None:
         """Sony's private directory: compared with the encrypted one that it points to, but without the offset of that."""
         try:
-            directory = self.directories.read(self.directories.number(entry.last))
-            digest = self._sony_digest(directory)
+            digest = self._sony_digest(self.directories.read(self.directories.number(entry.last)))
         except Broken:
             digest = ""
         self.blocks.name(NotRead(what, digest))
@@ -155,8 +154,7 @@ class Private:
             self._profile(start, f"camera profile {number}")
 
     def _profile(self, start: int, part: str) -> None:
-        stream = self.directories.stream
-        inside = Window(stream, start, self.directories.size)
+        inside = Window(self.directories.stream, start, self.directories.size)
         if read_at(inside, 0, 4) not in _PROFILE_HEADS:
             raise Broken(f"{part} has no header")
         directories = Directories(inside)
@@ -257,8 +255,7 @@ class Reader:
         self.directories = directories
         directories.stream.seek(0)
         self.blocks = Blocks(type=_type_of(directories.stream.read(10)), budget=directories.budget)
-        length = 16 if self.blocks.type == "CR2" else directories.variant.header
-        self._reached = Reached(length)
+        self._reached = Reached(16 if self.blocks.type == "CR2" else directories.variant.header)
         self._has_note = False
         self._cut = ""  # where the file ends, if a value isn't wholly in it
         self._notes: set[int] = set()  # where the MakerNotes begin whose places are compared
@@ -391,9 +388,8 @@ class Reader:
         for page in pages:
             yield from self._parts_of(page)
         yield from (Part(PICTURE, *it) for it in self._reached.pixels)
-        header = self._reached.parts[:1]
-        unused = self.directories.unused({*self._lists, *_OWN})
-        yield from (Part(STRUCTURE, *it) for it in (*header, *unused))
+        structure = (*self._reached.parts[:1], *self.directories.unused({*self._lists, *_OWN}))
+        yield from (Part(STRUCTURE, *it) for it in structure)
         yield from (Part(METADATA, *it) for it in self._reached.parts)
 
     def _parts_of(self, page: Page) -> Iterator[Part]:

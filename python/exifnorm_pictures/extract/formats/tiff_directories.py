@@ -245,8 +245,7 @@ class Directories:
     def check(self) -> None:
         """Raises `Broken` if a value that was read shares bytes with a directory or with the header."""
         for start, end in self._values:
-            place = bisect_left(self._starts, end) - 1
-            if self._ends[self._starts[place]] > start:
+            if self._ends[self._starts[bisect_left(self._starts, end) - 1]] > start:
                 raise Broken(f"the value at {start} shares bytes with a directory")
 
     def is_list(self, entry: Entry) -> bool:
