@@ -35,6 +35,12 @@ def packet(data):
     return segment(0xE1, XMP + data)
 
 
+def extended(data):
+    """A segment of extended XMP that no packet names."""
+    length = len(data).to_bytes(4, "big")
+    return segment(0xE1, EXTENSION + b"0123456789ABCDEF" * 2 + length + bytes(4) + data)
+
+
 COMMENT, SCAN = segment(0xFE, b"comment"), segment(0xDA, b"scan")
 
 

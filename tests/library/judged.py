@@ -1,9 +1,7 @@
 """The blocks of all cases, and the result of each call for them by the independent reader of the format (tests/blocks/reading.py)."""
 
 import functools
-import struct
 from dataclasses import dataclass
-from pathlib import Path
 
 from cases import Sweep, read_all
 from commands import TOP
@@ -13,9 +11,6 @@ from reading import CAUSES, Fault, said
 CASES = TOP / "tests" / "program"
 NAMES = list(CAUSES)  # of the causes; their numbers count from 1
 LARGE = 40_000  # blocks of more bytes are called less often
-
-DONE, REFUSED, TOO_LONG, SECOND_REFUSED = 0, 2, 3, 6
-NUMBERS = {"exif": 1, "iim": 2}
 
 
 @dataclass
@@ -75,39 +70,3 @@ def pairs(blocks):
     found = [(at, (at + 1) % len(blocks)) for at in range(len(blocks))] + [(at, at) for at in range(0, len(blocks), 7)]
     found += [(at, numbers[it.form]) for at, it in enumerate(blocks) if it.form is not None]
     return list(dict.fromkeys(found))
-
-
-def number_of(fault):
-    """A fault as the library stores it: two equal to nothing for an accepted block."""
-    return (NAMES.index(fault[0]) + 1, fault[1]) if fault else (0, 0)
-
-
-def texts_of(it):
-    """The statuses and outputs of the three calls for texts."""
-    if it.fault:
-        return [(REFUSED, b"")] * 3
-    form = (TOO_LONG, b"") if it.form is None else (DONE, it.form)
-    return [form, (DONE, it.listing.encode("ascii")), (DONE, it.captions.encode("ascii"))]
-
-
-def comparison(first, second):
-    """The status of a comparison, its result, and its fault."""
-    if first.fault:
-        return REFUSED, 0, number_of(first.fault)
-    if second.fault:
-        return SECOND_REFUSED, 0, number_of(second.fault)
-    return DONE, int(first.whole_form == second.whole_form), (0, 0)
-
-
-def write_jobs(path, blocks):
-    """The file that calls.c reads."""
-    compared = pairs(blocks)
-    with Path(path).open("wb") as it:
-        it.write(struct.pack("<2I", len(blocks), len(compared)))
-        for one in blocks:
-            it.write(struct.pack("<4I", NUMBERS.get(one.kind, 0), *number_of(one.fault), len(one.block)) + one.block)
-            for status, text in texts_of(one):
-                it.write(struct.pack("<2I", status, len(text)) + text)
-        for first, second in compared:
-            status, same, fault = comparison(blocks[first], blocks[second])
-            it.write(struct.pack("<6I", first, second, status, same, *fault))

@@ -107,21 +107,6 @@ def strips(order, count):
     return laid(Exif(dict(ORIENTATION), thumb={}, strips=[b"x"] * count), layout)
 
 
-@pytest.mark.parametrize("order", [1, -1, 0], ids=["ascending", "descending", "random"])
-def test_memory_of_strips(costs, order):
-    """A bit for each byte of the block."""
-    block = strips(order, 400_000)
-    for call in ("check", "normalise", "captions", "compare"):
-        assert costs.counts(call, block).peak <= SLACK * (len(block) / 8 + SMALL), call
-
-
-def test_memory_of_fields_that_are_checked(costs):
-    """A check keeps no field of these directories."""
-    fields = {tag: Value(SHORT, [1]) for tag in range(0x1000, 0x2000)}
-    block = laid(Exif(fields, exif=fields, interop=fields, gps=fields), Layout("<"))
-    assert costs.counts("check", block).peak <= SLACK * (len(block) / 8 + SMALL)
-
-
 FIELDS = {tag: Value(SHORT, [1]) for tag in range(0x1000, 0x1064)}
 # Meanings, each with the number of lists of a check, and of a meaning that is read (docs/DECISIONS.md). The claimed ranges of an Exif block
 # are one list of bits, and a check keeps nothing else but the fields of the thumbnail directory. The meaning has a list for the fields of
@@ -167,26 +152,16 @@ def test_one_allocation_for_each_list(costs, meaning, checked, read):
     assert {call: costs.counts(call, block)[1:3] for call in calls} == calls
 
 
-def see_that_proofs_hold(costs, block):
+@pytest.mark.parametrize("make", [small_kinds, *LARGE_MAKERS], ids=lambda it: it.__name__)
+def test_no_call_asks_for_more_than_is_proved(costs, make):
     """No call asks the allocator for more than its contract states."""
-    most = bounds().block_request(len(block))
-    for call, proved in {"check": most, "normalise": most, "show": most, "captions": most, "compare": 2 * most}.items():
-        counts = costs.counts(call, block)
-        if call in ("show", "captions"):
-            proved += bounds().text_request(counts.written)
-        assert counts.asked <= proved, f"{call} of {len(block)} bytes asks for {counts.asked}"
-
-
-@pytest.mark.parametrize("kind", [pytest.param(it, id=it.name) for it in small_kinds()])
-def test_no_call_asks_for_more_than_is_proved(costs, kind):
-    for block in kind.blocks:
-        see_that_proofs_hold(costs, block)
-
-
-@pytest.mark.parametrize("make", LARGE_MAKERS, ids=lambda it: it.__name__)
-def test_no_call_for_a_large_block_asks_for_more_than_is_proved(costs, make):
-    for kind in make():
-        see_that_proofs_hold(costs, kind.blocks[0])
+    for block in (block for kind in make() for block in kind.blocks):
+        most = bounds().block_request(len(block))
+        for call, proved in {"check": most, "normalise": most, "show": most, "captions": most, "compare": 2 * most}.items():
+            counts = costs.counts(call, block)
+            if call in ("show", "captions"):
+                proved += bounds().text_request(counts.written)
+            assert counts.asked <= proved, f"{call} of {len(block)} bytes asks for {counts.asked}"
 
 
 def segment(marker, data):
@@ -195,35 +170,6 @@ def segment(marker, data):
 
 def picture(*pieces):
     return b"\xff\xd8" + b"".join(pieces) + b"\xff\xd9"
-
-
-def of_exif(block):
-    return segment(0xE1, b"Exif\0\0" + block)
-
-
-def of_record(block):
-    resource = b"8BIM\4\4\0\0" + len(block).to_bytes(4, "big") + block + bytes(len(block) % 2)
-    return segment(0xED, b"Photoshop 3.0\0" + resource)
-
-
-SHORT_BLOCKS = [it for kind in small_kinds() for it in kind.blocks if len(it) < 60_000]
-RECORDS, EXIFS = ([it for it in SHORT_BLOCKS if (it[:1] == b"\x1c") == is_record] for is_record in (True, False))
-BIG = b"MM\0\x2a"
-
-
-def test_no_comparison_of_pictures_asks_for_more_than_is_proved(costs):
-    """Pictures with each block, whole and in two pieces, and with two blocks of each kind. The costs are those of a picture beside itself."""
-    for exif, record in zip(EXIFS, RECORDS * (len(EXIFS) // len(RECORDS) + 1)):
-        exif = exif[6:] if exif.startswith(b"Exif") else exif
-        pieces = [of_exif(exif[:8]), of_exif(exif[8:])] if exif[8:12] not in (BIG, b"II*\0") else [of_exif(exif)]
-        for blocks, octets in (
-            ([(exif, record)], picture(of_exif(exif), of_record(record))),
-            ([(exif, record)], picture(*pieces, of_record(record))),
-            ([(exif, record)] * 2, picture(of_exif(exif), of_record(record), of_exif(exif), of_record(record))),
-        ):
-            once = sum(2 * bounds().exif_request(len(one)) + bounds().iim_request(len(other)) for one, other in blocks)
-            asked = costs.counts("jpeg_same_blocks", octets).asked
-            assert asked <= 2 * (bounds().join_request(len(octets)) + once), f"{len(octets)} bytes ask for {asked}"
 
 
 # Packets of so many properties, in the order of their names and in others.
@@ -257,14 +203,6 @@ PACKETS = {
 }
 
 
-@pytest.mark.parametrize("octets, most, shown", PACKETS.values(), ids=PACKETS)
-def test_memory_of_packets(costs, octets, most, shown):
-    """In proportion to the packet."""
-    for call in ("xmp_check", "xmp_normalise"):
-        assert costs.counts(call, octets).peak <= most * len(octets), call
-    assert costs.counts("xmp_unsorted", octets).peak <= shown * len(octets)
-
-
 # Pictures with extended XMP in so many pieces of one octet, and others that aren't read.
 PIECES = 5_000
 EXTENDED = packet([f"<d:a>{'x' * (PIECES - len(packet(['<d:a></d:a>'])))}</d:a>"])
@@ -293,11 +231,39 @@ HOSTILE = {
 }
 
 
-def test_memory_of_extended_xmp(costs):
-    """In proportion to the picture, whatever the pieces say."""
-    for name, pieces in {"usual": OCTETS, "one piece": [extended(EXTENDED)], **HOSTILE}.items():
-        octets = with_pieces(pieces)
-        assert costs.counts("jpeg_same", octets).peak <= 10 * len(EXTENDED) + 64 * len(pieces) + SMALL, name
+def in_bits(block):
+    """A bit for each byte of the block."""
+    return SLACK * (len(block) / 8 + SMALL)
+
+
+OF_FOUR = ("check", "normalise", "captions", "compare")
+MANY = {tag: Value(SHORT, [1]) for tag in range(0x1000, 0x2000)}
+# The calls, what they are given, and the bytes that each takes at once at most.
+PEAKS = {
+    **{f"strips, {order}": (OF_FOUR, lambda order=order: strips(order, 400_000), in_bits) for order in (1, -1, 0)},
+    "fields that are checked": (("check",), lambda: laid(Exif(MANY, exif=MANY, interop=MANY, gps=MANY), Layout("<")), in_bits),
+    **{
+        f"{name}, by {calls[0]}": (calls, lambda it=octets: it, lambda it, most=most: most * len(it))
+        for name, (octets, normal, shown) in PACKETS.items()
+        for calls, most in ((("xmp_check", "xmp_normalise"), normal), (("xmp_unsorted",), shown))
+    },
+    **{
+        f"extended XMP: {name}": (
+            ("jpeg_same",),
+            lambda it=pieces: with_pieces(it),
+            lambda _, count=len(pieces): 10 * len(EXTENDED) + 64 * count + SMALL,
+        )
+        for name, pieces in {"usual": OCTETS, "one piece": [extended(EXTENDED)], **HOSTILE}.items()
+    },
+}
+
+
+@pytest.mark.parametrize("calls, make, most", PEAKS.values(), ids=PEAKS)
+def test_memory(costs, calls, make, most):
+    """In proportion to what is given, whatever its parts say."""
+    octets = make()
+    for call in calls:
+        assert costs.counts(call, octets).peak <= most(octets), call
 
 
 def test_each_allocation_of_extended_xmp_fails(costs):
@@ -312,26 +278,8 @@ def test_each_allocation_of_extended_xmp_fails(costs):
 # ---- instructions
 
 
-def test_instructions_of_extended_xmp_in_another_order(costs):
-    shuffled = Random(1).sample(OCTETS, PIECES)
-    blocks = {"usual": OCTETS, "descending": OCTETS[::-1], "random": shuffled, **HOSTILE}
-    costs.see_that_orders_are_alike("jpeg_same", {name: with_pieces(it) for name, it in blocks.items()}, SORTED)
-
-
-@pytest.mark.parametrize("make, parts", [(packet, PROPERTIES), (bag, MEMBERS)], ids=["properties", "a bag"])
-def test_instructions_of_properties_in_another_order(costs, make, parts):
-    costs.see_that_orders_are_alike("xmp_normalise", in_orders(make, parts), 2.0)
-
-
 def iim(names):
     return orders.record(names, b"octets 1").spelled()
-
-
-def test_instructions_of_values_in_another_order(costs):
-    fields = Exif({tag: Value(RATIONAL, [(tag, 7)]) for tag in range(0x1000, 0x3000)})
-    blocks = {"usual": laid(fields, Layout("<")), "shuffled": laid(fields, Layout("<", shuffled=True))}
-    for call in ("check", "normalise"):
-        costs.see_that_orders_are_alike(call, blocks, SAME)
 
 
 @pytest.mark.parametrize("count", [50_000, 140_000], ids=["in the first megabyte", "after the first megabyte"])
@@ -347,28 +295,43 @@ def test_instructions_for_each_strip(costs, count):
             assert instructions / each["ascending"] <= (SAME if call == "normalise" else SORTED), f"{call}: {name} order"
 
 
-ORDERED = {"check": 1.0, "normalise": SORTED, "captions": SORTED, "compare": SORTED}  # what a call may take in other orders
+def chosen(count):
+    return sorted(Random(1).sample(list(orders.ascending(orders.ALL)), count))
 
 
-def test_instructions_of_groups_in_another_order(costs):
-    names = list(orders.ascending(orders.ALL))
-    blocks = {"usual": iim(names), "descending": iim(names[::-1]), "random": iim(orders.shuffled())}
-    for call, most in ORDERED.items():
-        costs.see_that_orders_are_alike(call, blocks, most)
-
-
-@pytest.mark.parametrize("count", [FEW, FEW + 1, 1000, COUNTERS // ITEM, COUNTERS // ITEM + 1])
-def test_instructions_of_few_groups_in_another_order(costs, count):
-    names = sorted(Random(1).sample(list(orders.ascending(orders.ALL)), count))
-    blocks = {"usual": iim(names), "descending": iim(names[::-1]), "random": iim(Random(2).sample(names, count))}
-    costs.see_that_orders_are_alike("check", blocks, 1.0)
-    costs.see_that_orders_are_alike("normalise", blocks, SORTED)
-
-
-def test_instructions_of_random_records(costs):
+def repeated():
+    """A name for each of many DataSets: by its first, and as they come."""
     names = list(orders.random(200_000))
-    blocks = {"usual": iim([name for name, count in sorted(Counter(names).items()) for _ in range(count)]), "random": iim(names)}
-    for call, most in ORDERED.items():
+    return {"usual": iim([name for name, count in sorted(Counter(names).items()) for _ in range(count)]), "random": iim(names)}
+
+
+VALUES = Exif({tag: Value(RATIONAL, [(tag, 7)]) for tag in range(0x1000, 0x3000)})
+ORDERED = {"check": 1.0, "normalise": SORTED, "captions": SORTED, "compare": SORTED}  # what a call may take in other orders
+# What each call may take of some input, in times of the usual order.
+ORDERS = {
+    "extended XMP": (
+        {"jpeg_same": SORTED},
+        lambda: {name: with_pieces(it) for name, it in {**in_orders(list, OCTETS), **HOSTILE}.items()},
+    ),
+    "properties": ({"xmp_normalise": 2.0}, lambda: in_orders(packet, PROPERTIES)),
+    "a bag": ({"xmp_normalise": 2.0}, lambda: in_orders(bag, MEMBERS)),
+    "values": (
+        {"check": SAME, "normalise": SAME},
+        lambda: {name: laid(VALUES, Layout("<", shuffled=name != "usual")) for name in ("usual", "shuffled")},
+    ),
+    "all groups": (ORDERED, lambda: in_orders(iim, list(orders.ascending(orders.ALL)))),
+    **{
+        f"{count:,} groups": ({"check": 1.0, "normalise": SORTED}, lambda count=count: in_orders(iim, chosen(count)))
+        for count in (FEW, FEW + 1, 1000, COUNTERS // ITEM, COUNTERS // ITEM + 1)
+    },
+    "names that come again": (ORDERED, repeated),
+}
+
+
+@pytest.mark.parametrize("calls, make", ORDERS.values(), ids=ORDERS)
+def test_instructions_in_another_order(costs, calls, make):
+    blocks = make()
+    for call, most in calls.items():
         costs.see_that_orders_are_alike(call, blocks, most)
 
 

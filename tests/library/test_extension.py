@@ -17,7 +17,7 @@ import made_by_tools
 from commands import TOP, run
 from compiling import HERE
 from exifnorm import _calls, _library
-from exifnorm_pictures.model.records import PictureRecord, Stamp
+from exifnorm_pictures.model.records import Stamp
 from exifnorm_pictures.scan import looking
 from meanings import ASCII, SHORT, Exif, Layout, Record, Value, laid
 from jpeg_made import VASE, exif, packet, picture
@@ -74,6 +74,7 @@ PACKETS = [*small_packets(), b"", b"x", b"<a>", small_packets()[0] + 20_000 * b"
 OF_PACKETS = ("xmp_normalise", "xmp_unsorted")
 PACKING = (hashlib.sha256, str, lambda octets: b"[]")
 # What is made for catalogues, whose results test_packed.py compares with Python's
+BOWL = os.fsencode(TOP / "samples/before/ceramics/2003-12-bowl.jpg")
 PACKED = {
     "packed": [(it, hashlib.sha256) for it in (ONE, CAPTION, BLOCKS["a text in 8,191 bytes"], b"", b"x")],
     "xmp_packed": [(it, *PACKING) for it in PACKETS],
@@ -219,7 +220,8 @@ def check_no_leak(act, times):
 def often(name):
     """The arguments of many calls: some that succeed, some that fail, and wrong ones."""
     if name in PACKED:
-        return [*PACKED[name][:9], (None, *PACKED[name][0][1:])]
+        record = [(BOWL, b"/", Stamp.at(BOWL), Stamp.at(BOWL), looking._USUAL)] * (name == "jpeg_record")
+        return [*PACKED[name][:9], *record, (None, *PACKED[name][0][1:])]
     if name in OF_JPEGS:
         return [*itertools.product(JPEGS.values(), (1, 100_000))]
     if name in PAIRS:
@@ -237,16 +239,6 @@ def test_memory_after_many_calls(call_of, name):
         counts = [*map(sys.getrefcount, arguments)]
         check_no_leak(lambda: outcome(call, *arguments), 2000 if len(arguments[0] or b"") > 1000 else 50_000)
         assert max(abs(now - was) for now, was in zip(map(sys.getrefcount, arguments), counts)) < 100
-
-
-def test_memory_after_many_records(call_of):
-    """The same of a record that is made."""
-    path, call = os.fsencode(TOP / "samples/before/ceramics/2003-12-bowl.jpg"), call_of("jpeg_record")
-    arguments = (path, b"/", Stamp.at(path), Stamp.at(path), looking._USUAL)
-    assert isinstance(call(*arguments), PictureRecord)
-    counts = [*map(sys.getrefcount, looking._USUAL)]
-    check_no_leak(lambda: call(*arguments), 2000)
-    assert max(abs(now - was) for now, was in zip(map(sys.getrefcount, looking._USUAL), counts)) < 100
 
 
 def addresses(loaded):

@@ -1,28 +1,18 @@
-"""exifnorm_jpeg_same and exifnorm_jpeg_same_blocks, from C and by the package: pictures whose blocks are known, each kind of fault on either side,
-and thousands of pairs that are made by chance, beside the independent readers of heads and of blocks. test_jpeg_same_xmp.py is about XMP."""
+"""exifnorm.jpeg_same and exifnorm.jpeg_same_blocks, by ctypes and by the extension module: pictures whose blocks are known, and each kind of fault
+on either side. test_jpeg_same_xmp.py is about XMP, test_jpeg_same_extended.py compares pairs that are made by chance, and the laws in fuzz/
+are about the same calls from C."""
 
-import ctypes
 import pickle
-from random import Random
-from struct import Struct
 
 import pytest
 
 import exifnorm
 import jpegs
+from changed import changed
 from exifnorm import NotRead, PictureRefused, Unread
 from jpeg_made import COMMENT, END, EXIF, LITTLE, SCAN, XMP, exif, iptc, photoshop, picture, resource, segment
 from kinds import small_kinds
-from meanings import Record
-from reading import CAUSES, Fault, datasets, exif_block
 from small_blocks import CAPTION, LOOP, ONE
-
-DONE, REFUSED, NO_MEMORY, SECOND_REFUSED, NOT_READ, SECOND_NOT_READ = 0, 2, 4, 6, 7, 8
-HEADS = {"JpegNoStart": 101, "JpegNoMarker": 102, "JpegLength": 103, "JpegCut": 104}
-NUMBERS = {name: number for number, name in enumerate(CAUSES, 1)}
-KINDS = ["", "exif", "iptc"]
-FAULT, UNREAD, FILLER, UNSET = Struct("IINN"), Struct("IIN"), 0xA5, 0x5EED5EED
-SEED, PAIRS = 1, 20_000
 
 UPRIGHT = bytes.fromhex("4d4d002a00000008 0001 0112 0003 00000001 00010000 00000000")
 LONG_CAPTION = b"\x1c\x02\x78\x80\x04\0\0\0\x04Vase\0"  # means what CAPTION means
@@ -36,54 +26,27 @@ def name(request):
 
 
 @pytest.fixture
-def compared(shared, name):
-    """The call in C: its status, and the result or the fault. What a status doesn't name must be unchanged."""
-    library = ctypes.CDLL(str(shared))
-
-    def call(first, second):
-        same, fault = ctypes.c_uint32(UNSET), ctypes.create_string_buffer(bytes((FILLER,)) * FAULT.size, FAULT.size)
-        sizes = ctypes.c_size_t(len(first)), ctypes.c_size_t(len(second))
-        unread = ctypes.create_string_buffer(bytes((FILLER,)) * UNREAD.size, UNREAD.size)
-        status = library[f"exifnorm_{name}"](first, sizes[0], second, sizes[1], ctypes.byref(same), unread, fault)
-        assert (same.value == UNSET) == (status != DONE), "the result"
-        assert (unread.raw == bytes((FILLER,)) * UNREAD.size) == (status not in (NOT_READ, SECOND_NOT_READ)), "the place that isn't read"
-        assert (fault.raw == bytes((FILLER,)) * FAULT.size) == (status not in (REFUSED, SECOND_REFUSED)), "the fault"
-        if status in (NOT_READ, SECOND_NOT_READ):
-            return status, UNREAD.unpack(unread.raw)
-        return status, same.value if status == DONE else FAULT.unpack(fault.raw) if status != NO_MEMORY else None
-
-    return call
-
-
-@pytest.fixture
-def see(compared, name, way):
-    """Sees that the call in C and that of the package give the expected result: whether two pictures are the same, or the fault."""
+def see(name, way):
+    """Sees that the call gives the expected result: whether two pictures are the same, the place that isn't read, or the fault."""
     call = getattr(exifnorm, name)
 
     def check(first, second, expected):
-        found = compared(first, second)
-        if isinstance(expected, bool):
-            assert found == (DONE, int(expected))
-            assert call(first, second) is expected
+        if isinstance(expected, (bool, NotRead)):
+            assert type(found := call(first, second)) is type(expected) and found == expected
             return
-        if isinstance(expected, NotRead):
-            side, (joined, start) = expected
-            assert found == (SECOND_NOT_READ if side == 2 else NOT_READ, (1, int(joined), start))
-            assert call(first, second) == expected
-            with pytest.raises(TypeError, match=f"JPEG {side} has a part at {start}"):
-                bool(call(first, second))
-            return
-        cause, place, side, kind, index = expected
-        number = (NUMBERS if kind else HEADS)[cause]
-        assert found == (SECOND_REFUSED if side == 2 else REFUSED, (number, KINDS.index(kind), index, place))
         with pytest.raises(PictureRefused) as raised:
             call(first, second)
         it = raised.value
         assert (it.cause, it.offset, it.side, it.kind, it.index) == expected
         again = pickle.loads(pickle.dumps(it))
-        assert (again.args, str(again), again.kind, again.index) == (it.args, str(it), kind, index), "pickled"
+        assert (again.args, str(again), again.kind, again.index) == (it.args, str(it), *expected[3:]), "pickled"
 
     return check
+
+
+def test_what_is_not_read_has_no_truth_value(see, name):
+    with pytest.raises(TypeError, match="JPEG 1 has a part at 6 that"):
+        bool(getattr(exifnorm, name)(*NOT_ALL["APP1 with another mark"][:2]))
 
 
 # ---- pictures whose blocks are known
@@ -177,7 +140,7 @@ def test_the_same_as_far_as_it_is_read(see, some, all_read, place):
     assert exifnorm.jpeg_unread(some) == place and exifnorm.jpeg_unread(all_read) is None
     # A block that both have is different; one that only the other has may be in the place.
     other = picture(exif(UPRIGHT), iptc(URN))
-    see(some, other, False if any(blocks_of(some)[0]) else NotRead(1, Unread(*place)))
+    see(some, other, False if exifnorm.jpeg_blocks(some) else NotRead(1, Unread(*place)))
 
 
 @pytest.mark.parametrize("first, second", DIFFERENT.values(), ids=DIFFERENT)
@@ -200,67 +163,6 @@ def test_faults(see, broken, fault):
 
 
 # ---- pairs that are made by chance
-
-
-def blocks_of(octets):
-    """The Exif and the IPTC blocks of a head, by the walk in Python."""
-    found, last = ([], []), None
-    parts, fault = jpegs.parts(octets)
-    if fault:
-        return found, fault
-    runs = []
-    for _, kind, begins, start, size in parts:
-        if kind in ("exif", "photoshop"):
-            if begins:
-                runs.append((kind, []))
-            last = runs[-1][1]
-            last.append(octets[start : start + size])
-    for kind, pieces in runs:
-        data = b"".join(pieces)
-        if kind == "exif":
-            found[0].append(data)
-        else:
-            found[1].extend(it for number, it in jpegs.resources(data)[0] if number == 0x0404 and it)
-    return found, None
-
-
-def expected_of(first, second, has_xmp):
-    """The result by the independent readers. No packet of XMP here has a form."""
-    pictures = [blocks_of(it) for it in (first, second)]
-    for side, (_, fault) in enumerate(pictures, 1):
-        if fault:
-            return (*fault, side, "", 0)
-    forms = []
-    for side, (blocks, _) in enumerate(pictures, 1):
-        meant = [[], []]
-        for forms_of_kind, kind, those, read in zip(meant, KINDS[1:], blocks, (exif_block, lambda it: Record(datasets(it)))):
-            for index, block in enumerate(those):
-                try:
-                    forms_of_kind.append(read(block).normal())
-                except Fault as why:
-                    return (*why.args, side, kind, index)
-        forms.append(meant)
-    if any(it != other for kinds in zip(*forms) for it, other in zip(*kinds)):
-        return False
-    if forms[0] != forms[1] and place_of(first, second, False) is None:
-        return False
-    place = place_of(first, second, has_xmp)
-    return True if place is None else place
-
-
-def xmp_of(octets):
-    """The place of XMP that isn't read: in other places than packets, or that of the only packet or of the second one."""
-    if other := jpegs.other_xmp(octets):
-        return other
-    packets = [(False, start) for _, kind, _, start, _ in jpegs.parts(octets)[0] if kind == "xmp"]
-    return packets[min(len(packets) - 1, 1)] if packets else None
-
-
-def place_of(first, second, has_xmp):
-    """The first place that isn't read, by the independent reader."""
-    places = [jpegs.unread(it) or (xmp_of(it) if has_xmp else None) for it in (first, second)]
-    return next((NotRead(side, Unread(*place)) for side, place in enumerate(places, 1) if place), None)
-
 
 KNOWN = [block for kind in small_kinds() for block in kind.blocks if len(block) < 3000]
 EXIFS = [it for it in KNOWN if it[:1] != b"\x1c"] + [ONE, LITTLE, UPRIGHT] * 20 + [LOOP, b""]
@@ -287,39 +189,10 @@ def made(chance):
             pieces += [photoshop(data[:at])] + ([photoshop(data[at:])] if at < len(data) else [])
         else:
             pieces.append(chance.choice((COMMENT, segment(0xE1, XMP + b"<x/>"), segment(0xE1, b"EXIF\0\0" + ONE))))
-    return picture(*pieces, end=chance.choice((END, SCAN, END, SCAN, END, b"")))
+    return picture(*pieces, end=chance.choice((END, SCAN + b"data" + END, END, b"")))
 
 
-def changed(chance, octets):
-    """The same picture, or one with a changed byte, or cut."""
-    way, at = chance.randrange(8), chance.randrange(len(octets) + 1)
-    if way == 0:
-        return octets[:at] + bytes((chance.choice((0, 1, 0xFF, chance.randrange(256))),)) + octets[at + 1 :]
-    return octets[:at] if way == 1 else octets
-
-
-def test_pairs_that_are_made_by_chance(compared, name):
-    chance, met = Random(SEED), {}
-    for _ in range(PAIRS):
-        first = changed(chance, made(chance))
-        second = changed(chance, first if chance.randrange(2) else made(chance))
-        expected = expected_of(first, second, name == "jpeg_same")
-        status, found = compared(first, second)
-        if isinstance(expected, bool):
-            assert (status, found) == (DONE, int(expected)), (first.hex(), second.hex())
-            met[expected] = met.get(expected, 0) + 1
-            continue
-        if isinstance(expected, NotRead):
-            side, (joined, start) = expected
-            assert (status, found) == ((NOT_READ, SECOND_NOT_READ)[side - 1], (1, joined, start)), (first.hex(), second.hex())
-            met["not read", side, joined] = met.get(("not read", side, joined), 0) + 1
-            continue
-        cause, place, side, kind, index = expected
-        number = (NUMBERS if kind else HEADS)[cause]
-        assert (status, found) == ((REFUSED, SECOND_REFUSED)[side - 1], (number, KINDS.index(kind), index, place)), (
-            first.hex(),
-            second.hex(),
-        )
-        met[side, kind] = met.get((side, kind), 0) + 1
-    kinds = (True, False, *((side, kind) for side in (1, 2) for kind in KINDS), *(("not read", side, False) for side in (1, 2)))
-    assert min(met.get(it, 0) for it in kinds) > PAIRS // 400 and met["not read", 1, True], met
+def pair_of_blocks(chance):
+    first = made(chance)
+    second = first if chance.randrange(2) else made(chance)
+    return tuple(changed(it, chance) if chance.randrange(5) == 0 else it for it in (first, second))

@@ -7,15 +7,16 @@ import pytest
 
 import exifnorm
 import jpegs
+from changed import changed
 from exifnorm import NotRead, Unread
 from small_blocks import CAPTION, ONE
 from small_packets import small_packets
-from jpeg_made import COMMENT, END, EXTENSION, LITTLE, SPACES, VASE, exif, iptc, packet, photoshop, picture, resource, segment
+from jpeg_made import COMMENT, END, EXTENSION, LITTLE, SPACES, VASE, exif, extended, iptc, packet, photoshop, picture, resource, segment
 from jpeg_made import XMP as MARK
-from test_jpeg_same import NOT_ALL, UPRIGHT, URN, compared, name, see
-from test_jpeg_xmp import extended
+from test_jpeg_same import NOT_ALL, UPRIGHT, URN, name, see
 
-__all__ = ["compared", "name", "see"]  # fixtures
+
+__all__ = ["name", "see"]  # fixtures
 
 VASE_AS_ELEMENT = b"<?xpacket begin=''?><r:RDF " + SPACES + b"><r:Description><d:source>Vase</d:source></r:Description></r:RDF>  "
 BOWL = VASE.replace(b"Vase", b"Bowl")
@@ -121,8 +122,7 @@ def test_which_place_is_named(see):
 
 def test_only_blocks_are_compared_without_xmp(way):
     for some, _ in (*DIFFERENT.values(), *EXTRA.values()):
-        expected = exifnorm.jpeg_same_blocks(some, some)
-        assert expected is True or expected.unread == jpegs.unread(some)
+        assert exifnorm.jpeg_same_blocks(some, some) is True or exifnorm.jpeg_unread(some)
     assert exifnorm.jpeg_same_blocks(*DIFFERENT["another value"]) is exifnorm.jpeg_same_blocks(*DIFFERENT["one has no packet"]) is True
 
 
@@ -133,13 +133,9 @@ PACKETS = [it for it in PACKETS if len(it) < 60_000]
 HEAD = len(photoshop(b""))  # what precedes the first resource in a segment
 
 
-def changed(chance, octets):
-    """The same bytes, or with one changed or left out."""
-    place = chance.randrange(len(octets) + 1)
-    way = chance.randrange(6)
-    if way == 0:
-        return octets[:place] + bytes((chance.choice((32, 60, 62, 39, 47, chance.randrange(256))),)) + octets[place + 1 :]
-    return octets[:place] + octets[place + 1 :] if way == 1 else octets
+def perhaps(chance, octets):
+    """The same bytes, or changed ones."""
+    return octets if chance.randrange(3) else changed(octets, chance)
 
 
 def damaged(chance, octets):
@@ -150,7 +146,7 @@ def damaged(chance, octets):
 
 
 def made_piece(chance):
-    data = changed(chance, chance.choice(PACKETS))
+    data = perhaps(chance, chance.choice(PACKETS))
     way = chance.randrange(24)
     if way < 16:
         return packet(data)
@@ -159,7 +155,7 @@ def made_piece(chance):
     if way < 20:
         return damaged(chance, of_resource(data))
     if way == 20:
-        return segment(0xE1, changed(chance, MARK) + data)
+        return segment(0xE1, perhaps(chance, MARK) + data)
     if way == 21:
         return segment(0xE1, chance.choice((b"XMP\0", b"http", b"", EXTENSION)) + data)
     return chance.choice((exif(ONE), exif(LITTLE), iptc(CAPTION), iptc(URN), COMMENT))
@@ -184,7 +180,7 @@ def varied(chance, pieces):
     elif way == 2:
         other.append(made_piece(chance))
     elif way == 3:
-        other = [changed(chance, piece) if chance.randrange(2) else piece for piece in other]
+        other = [perhaps(chance, piece) for piece in other]
     elif way == 4:
         other.pop()
     return other

@@ -9,7 +9,6 @@ import subprocess
 from dataclasses import dataclass, field
 
 import pytest
-from fuzz_target import LAWS as LAWS_IN_C
 
 from commands import run, text_of
 from compiling import HEADERS, HERE
@@ -18,6 +17,7 @@ from reading import CAUSES
 
 BLOCKS, SEED = int(os.environ.get("FUZZ_BLOCKS", 400_000)), int(os.environ.get("FUZZ_SEED", 1))
 PARTS = 4  # processes that share the blocks
+IN_C = ["fuzz.c", *(f"fuzz/{it}.c" for it in "laws made heads blocks pictures packets area memory changes".split())]
 CC = ["cc", "-std=c99", "-Wall", "-Wextra", "-Werror", "-O2", "-I", HEADERS, "-I", HERE]
 
 LAWS = dict(re.findall(r'^ +LAW\((\w+), "(.*)"\)', text_of("tests", "library", "fuzz", "laws.h"), re.M))
@@ -55,10 +55,19 @@ class Fuzz:
         self.corpus, self.program = folder / "corpus", folder / "fuzz"
         self.environment = {"LD_LIBRARY_PATH": str(shared.parent), "LANG": "C"}
         write_corpus(self.corpus)
-        run(*CC, "-rdynamic", "-o", self.program, *(HERE / it for it in (*LAWS_IN_C, "fuzz/changes.c")), shared)
+        run(*CC, "-rdynamic", "-o", self.program, *(HERE / it for it in IN_C), shared)
 
     def report(self, seed, blocks):
-        words = [self.program, self.corpus, str(seed), str(blocks)]
+        words = [
+            "sh",
+            "-c",
+            'ulimit -s 512 && exec "$@"',
+            "sh",
+            self.program,
+            self.corpus,
+            str(seed),
+            str(blocks),
+        ]  # as exifnorm.h promises
         ran = subprocess.run(words, env=self.environment, capture_output=True, text=True, check=False)
         return read_report(ran.returncode, ran.stdout + ran.stderr)
 

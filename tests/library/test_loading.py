@@ -125,18 +125,19 @@ except exifnorm.LibraryMissing:
 
 
 @pytest.mark.parametrize(
-    "status, expected",
+    "status, expected, of_packet",
     [
-        (1, "AssertionError"),
-        (2, "Refused"),
-        (3, "NormalTooLong"),
-        (4, "MemoryError"),
-        (5, "AssertionError"),
-        (6, "Refused"),
-        (7, "AssertionError"),
+        (1, "AssertionError", "AssertionError"),
+        (2, "Refused", "XmpRefused"),
+        (3, "NormalTooLong", "AssertionError"),
+        (4, "MemoryError", "MemoryError"),
+        (5, "AssertionError", "AssertionError"),
+        (6, "Refused", "AssertionError"),
+        (7, "AssertionError", "AssertionError"),
+        (9, "AssertionError", "XmpRefused"),
     ],
 )
-def test_exception_for_each_status(packages, watched_library, status, expected):
+def test_exception_for_each_status(packages, watched_library, status, expected, of_packet):
     """From a library that always returns this status. One that asks for no more bytes than it got is not asked again."""
     code = """
 import exifnorm, json
@@ -144,20 +145,10 @@ def outcome(call, *blocks):
     try: call(*blocks)
     except Exception as why: return type(why).__name__
 calls = exifnorm.kind, exifnorm.normal, exifnorm.digest, exifnorm.show, exifnorm.fields, exifnorm.captions
-print(json.dumps([*(outcome(it, b"ab") for it in calls), outcome(exifnorm.same, b"a", b"b")]))
+print(json.dumps([*(outcome(it, b"ab") for it in calls), outcome(exifnorm.same, b"a", b"b"), outcome(exifnorm.xmp_normal, b"<a/>")]))
 """
     found = packages.printed(packages.copy("copy"), code, EXIFNORM_LIBRARY=watched_library, STATUS=status)
-    assert json.loads(found) == [expected] * 7
-
-
-@pytest.mark.parametrize("status, expected", [(2, "XmpRefused"), (4, "MemoryError"), (6, "AssertionError"), (9, "XmpRefused")])
-def test_exception_for_each_status_of_a_packet(packages, watched_library, status, expected):
-    code = """
-import exifnorm
-try: exifnorm.xmp_normal(b"<a/>")
-except Exception as why: print(type(why).__name__)
-"""
-    assert packages.printed(packages.copy("copy"), code, EXIFNORM_LIBRARY=watched_library, STATUS=status) == expected
+    assert json.loads(found) == [*[expected] * 7, of_packet]
 
 
 def test_little_memory(packages, shared):

@@ -169,61 +169,39 @@ def test_older_words_are_still_understood():
 OF_XMP = [exifnorm.XmpText, exifnorm.XmpResource, exifnorm.XmpContainer, exifnorm.XmpStructure, exifnorm.XmpProperty]
 
 
-@pytest.mark.parametrize("kind", [*small_kinds()], ids=lambda it: it.name)
-def test_fields_of_each_kind(kind):
-    """The fields from the form are those of the expected listing, for blocks with each type, directory and thumbnail."""
-    expected, form = _listings.fields_of_listing(kind.meaning.listing()), kind.meaning.normal()
-    for block in kind.blocks:
-        assert exifnorm.fields(block) == expected
-        assert exifnorm.normal(block) == form
+def in_iptc_tag(form, octets):
+    """A block with these bytes in the tag of an IPTC record."""
+    return laid(Exif({0x83BB: Value(form, octets)}), Layout(">"))
 
 
-def test_one_tag_in_five_directories():
-    """Tags that have a role in some directories only."""
-    inside = {0x0100: Value(LONG, [7]), 0xA002: Value(LONG, [8]), 0x83BB: Value(7, CAPTION)}
-    expected = []
-    for name in ("main", "exif", "interop", "gps", "thumb"):
-        expected.append(BlockField(name, 0x0100, "WHOLE" if name in ("main", "thumb") else "LONG", (7,)))
-        expected += [] if name == "main" else [BlockField(name, 0x83BB, "UNDEFINED", CAPTION)]
-        expected.append(BlockField(name, 0xA002, "WHOLE" if name == "exif" else "LONG", (8,)))
-        expected += [BlockField("iptc", 0x0278, "DATASET", b"Vase")] if name == "main" else []
-    assert exifnorm.fields(laid(Exif(*(dict(inside) for _ in range(5))), Layout("<"))) == expected
+# tags that have a role in some directories only
+EVERYWHERE = {
+    0x0100: Value(LONG, [7]),
+    0xA002: Value(LONG, [8]),
+    0xA003: Value(LONG, [9]),
+    0x0116: Value(SHORT, [9]),
+    0x83BB: Value(7, CAPTION),
+}
+STRIPS = "4d4d002a 00000008 0001 0112 0003 00000001 00010000 0000001a 0004 0111 0003 00000002 00500053 0117 0003 00000002 00030001"
+STRIPS += "0201 0004 00000001 00000054 0202 0004 00000001 00000002 00000000 414243 58 ffd8"
+OF_FIELDS = {
+    **{kind.name: kind.blocks for kind in small_kinds()},
+    "one tag in five directories": [laid(Exif(*(dict(EVERYWHERE) for _ in range(5))), Layout("<"))],
+    "nearly a record": [
+        in_iptc_tag(*it) for it in ((7, b"\x1c\x02\x78\x00\x09Vase"), (2, CAPTION), (7, b""), (7, ONE), (1, b"\x1c"), (1, CAPTION + b"\0"))
+    ],
+    "a long record": [Record([(2, 120, bytes(40_000)), (2, 25, b"")]).spelled()],
+    "a thumbnail with a JPEG and strips": [bytes.fromhex(STRIPS)],
+}
 
 
-def test_rows_and_heights():
-    rows = laid(Exif({0x0116: Value(LONG, [7])}, {0xA003: Value(LONG, [8])}, thumb={0x0116: Value(SHORT, [9])}), Layout(">"))
-    expected = [
-        BlockField("main", 0x0116, "WHOLE", (7,)),
-        BlockField("exif", 0xA003, "WHOLE", (8,)),
-        BlockField("thumb", 0x0116, "WHOLE", (9,)),
-    ]
-    assert exifnorm.fields(rows) == expected
-
-
-@pytest.mark.parametrize("octets, form", [(b"\x1c\x02\x78\x00\x09Vase", 7), (CAPTION, 2), (b"", 7), (ONE, 7), (b"\x1c", 1)])
-def test_bytes_that_are_nearly_a_record(octets, form):
-    found = exifnorm.fields(laid(Exif({0x83BB: Value(form, octets)}), Layout(">")))
-    assert [(it.directory, it.tag, it.values) for it in found] == [("main", 0x83BB, octets)]
-
-
-def test_records():
-    record = laid(Exif({0x83BB: Value(1, CAPTION + b"\0")}), Layout(">"))
-    assert exifnorm.fields(record) == [BlockField("iptc", 0x0278, "DATASET", b"Vase")], "a record of type BYTE"
-    long = Record([(2, 120, bytes(40_000)), (2, 25, b"")]).spelled()
-    expected = [BlockField("iptc", 0x0219, "DATASET", b""), BlockField("iptc", 0x0278, "DATASET", bytes(40_000))]
-    assert exifnorm.fields(long) == expected
-
-
-def test_thumbnail_with_a_jpeg_and_strips():
-    head = "4d4d002a 00000008 0001 0112 0003 00000001 00010000 0000001a 0004"
-    strips = "0111 0003 00000002 00500053  0117 0003 00000002 00030001"
-    jpeg = "0201 0004 00000001 00000054  0202 0004 00000001 00000002"
-    expected = [
-        BlockField("main", 0x0112, "SHORT", (1,)),
-        BlockField("thumb", 0x0201, "JPEG", b"\xff\xd8"),
-        BlockField("thumb", 0x0111, "STRIPS", (b"ABC", b"X")),
-    ]
-    assert exifnorm.fields(bytes.fromhex(f"{head} {strips} {jpeg} 00000000 414243 58 ffd8")) == expected
+@pytest.mark.parametrize("blocks", OF_FIELDS.values(), ids=OF_FIELDS)
+def test_fields_of_each_kind(blocks):
+    """The fields from the form are those of the listing, by the independent reader."""
+    for block in blocks:
+        meaning = said(block)
+        assert exifnorm.fields(block) == _listings.fields_of_listing(meaning.listing())
+        assert exifnorm.normal(block) == meaning.normal()
 
 
 def test_forms_that_are_too_long():
@@ -257,50 +235,45 @@ def test_each_caption_is_returned_once(repeats):
     assert {it: found.count(it) for it in found} == {(label, label.encode()): repeats for label in labels.values()}
 
 
-def test_captions_of_texts_and_a_record():
-    texts = {0x010E: Value(2, b"d\xc3\xa9\0"), 0x013B: Value(129, b"\xc3\xa9\0"), 0x8298: Value(2, b"no zero")}
-    record = Record([(1, 90, b"\x1b%G"), (2, 120, b"\xc3\xa9"), (2, 5, b"\xff")])
-    assert exifnorm.captions(laid(Exif(texts, record=record), Layout("<"))) == [
-        BlockCaption("description", b"d\xc3\xa9\0", None),
-        BlockCaption("artist", b"\xc3\xa9\0", "é"),
-        BlockCaption("copyright", b"no zero", "no zero"),
-        BlockCaption("title", b"\xff", None),
-        BlockCaption("caption", b"\xc3\xa9", "é"),
-    ]
+TEXTS = {0x010E: Value(2, b"d\xc3\xa9\0"), 0x013B: Value(129, b"\xc3\xa9\0"), 0x8298: Value(2, b"no zero")}
+IN_UTF_8 = Record([(1, 90, b"\x1b%G"), (2, 120, b"\xc3\xa9"), (2, 5, b"\xff")])
+OF_A_THUMBNAIL = Exif({0x013B: Value(2, b"\xc3\xa9\0")}, thumb={0x013B: Value(129, b"\xc3\xa9\0")})
 
 
-@pytest.mark.parametrize(
-    "declared, octets, text",
-    [
-        (b"", b"\xc3\xbc", None),
-        (b"", b"plain", None),
-        (b"\x1b%G", b"\xc3\xbc", "ü"),
-        (b"\x1b%G", b"\xc3A", None),
-    ],
-)
-def test_text_of_a_record(declared, octets, text):
-    datasets = [(1, 90, declared)] if declared else []
-    assert [it.text for it in exifnorm.captions(Record([*datasets, (2, 5, octets)]).spelled())] == [text]
+def of_caption(octets, text=None):
+    """A record with a caption, and what is returned of it."""
+    return Record([(2, 120, octets)]).spelled(), [BlockCaption("caption", octets, text)]
 
 
-def test_text_of_exif_fields():
-    zeros = exifnorm.captions(laid(Exif({0x013B: Value(2, b"two\0\0")}), Layout("<")))
-    assert [it.text for it in zeros] == ["two\0"], "a text with two zeros loses one"
-    others = Exif({0x013B: Value(2, b"\xc3\xa9\0")}, thumb={0x013B: Value(129, b"\xc3\xa9\0")})
-    found = exifnorm.captions(laid(others, Layout("<")))
-    assert found == [BlockCaption("artist", b"\xc3\xa9\0", None)], "the type of the thumbnail's text is no matter"
+IN_ORDER = [
+    BlockCaption("description", b"d\xc3\xa9\0", None),
+    BlockCaption("artist", b"\xc3\xa9\0", "é"),
+    BlockCaption("copyright", b"no zero", "no zero"),
+    BlockCaption("title", b"\xff", None),
+    BlockCaption("caption", b"\xc3\xa9", "é"),
+]
+OF_CAPTIONS = {
+    "texts and a record": (laid(Exif(TEXTS, record=IN_UTF_8), Layout("<")), IN_ORDER),
+    "no character set": of_caption(b"\xc3\xbc"),
+    "ASCII in no character set": of_caption(b"plain"),
+    "a wrong octet in UTF-8": (
+        Record([(1, 90, b"\x1b%G"), (2, 5, b"\xc3A")]).spelled(),
+        [BlockCaption("title", b"\xc3A", None)],
+    ),
+    "a text with two zeros, of which it loses one": (
+        laid(Exif({0x013B: Value(2, b"two\0\0")}), Layout("<")),
+        [BlockCaption("artist", b"two\0\0", "two\0")],
+    ),
+    "a thumbnail's text of another type": (laid(OF_A_THUMBNAIL, Layout("<")), [BlockCaption("artist", b"\xc3\xa9\0", None)]),
+    **{repr(it): of_caption(it) for it in (bytes(range(256)), b"charset: a: b", b"", b"\\0a\n")},
+    # each byte that is not printable takes three: the library is asked again, with more bytes
+    **{f"{count} zeros": of_caption(bytes(count)) for count in (1, 1000, 24_000, 60_000)},
+}
 
 
-@pytest.mark.parametrize("octets", [bytes(range(256)), b"charset: a: b", b"", b"\\0a\n"])
-def test_bytes_of_a_caption(octets):
-    found = exifnorm.captions(Record([(2, 120, octets)]).spelled())
-    assert [(it.label, it.data) for it in found] == [("caption", octets)]
-
-
-@pytest.mark.parametrize("count", [1, 1000, 24_000, 60_000])
-def test_captions_that_are_longer_than_expected(count):
-    """Each byte that is not printable takes three: the library is asked again, with more bytes."""
-    assert exifnorm.captions(Record([(2, 120, bytes(count))]).spelled()) == [BlockCaption("caption", bytes(count), None)]
+@pytest.mark.parametrize("block, expected", OF_CAPTIONS.values(), ids=OF_CAPTIONS)
+def test_captions(block, expected):
+    assert exifnorm.captions(block) == expected
 
 
 # ---- digests
@@ -547,7 +520,16 @@ BY_CALL = {
     "show of a large block": ({"show": 1}, exifnorm.show, laid(Exif({0x9999: Value(7, bytes(100_000))}), Layout("<"))),
     "captions": ({"captions": 1}, exifnorm.captions, CAPTION),
     "captions that are longer than expected": ({"captions": 2}, exifnorm.captions, Record([(2, 120, bytes(60_000))]).spelled()),
+    **{
+        f"normal of {count:,} numbers in twice as many bytes": (
+            {"normalise": calls},
+            exifnorm.normal,
+            laid(Exif({0x0116: Value(SHORT, [1] * count)}), Layout("<")),
+        )
+        for count, calls in ((500, 1), (40_000, 2))
+    },
     "fields": ({"normalise": 1}, exifnorm.fields, ONE),
+    "fields of a form that is too long": ({"normalise": 1, "show": 1}, lambda: exifnorm.fields(long_form())),
     "fields with a record": ({"normalise": 1, "check": 1}, exifnorm.fields, laid(Exif({}, record=Record([(2, 5, b"T")])), Layout(">"))),
     "xmp_normal": ({"xmp_normalise": 1}, exifnorm.xmp_normal, small_packets()[0]),
     "xmp_normal of many attributes": ({"xmp_normalise": 1}, exifnorm.xmp_normal, SETTINGS),
@@ -630,16 +612,6 @@ def test_an_older_library_lacks_one_call(missing, arguments, shared, monkeypatch
     assert older.jpeg_same_blocks(picture(exif(ONE)), picture(exif(LITTLE))) == 1
     with pytest.raises(exifnorm.LibraryMissing, match="XMP" if missing == "jpeg_same" else f"exifnorm_{missing}"):
         getattr(older, missing)(*arguments)
-
-
-@pytest.mark.parametrize("count, calls", [(500, 1), (40_000, 2)])
-def test_forms_of_twice_as_many_bytes_take_at_most_two_calls(watch, count, calls):
-    block = laid(Exif({0x0116: Value(SHORT, [1] * count)}), Layout("<"))
-    assert watch.of(exifnorm.normal, block) == {"normalise": calls}
-
-
-def test_fields_of_a_form_that_is_too_long_take_two_calls(watch):
-    assert watch.of(exifnorm.fields, long_form()) == {"normalise": 1, "show": 1}
 
 
 def test_the_library_is_loaded_once(shared, monkeypatch):

@@ -8,12 +8,12 @@ import pytest
 
 import exifnorm
 import made_by_tools
+from changed import changed
 from exifnorm import _library
 from exifnorm_pictures.files.session import Session
 from exifnorm_pictures.model.records import PictureRecord, Stamp
 from exifnorm_pictures.scan import looking
-from exifnorm_pictures.scan.batches import How
-from exifnorm_pictures.scan.walk import FoundFile
+from exifnorm_pictures.scan.walk import FoundFile, How
 from jpeg_made import COMMENT, EXTENSION, PICTURE, SCAN, exif, iptc, packet, photoshop, picture, resource, segment
 from meanings import ASCII, SHORT, UNDEFINED, Exif, Layout, Record, Value, laid
 from small_blocks import CAPTION, ONE, outcome
@@ -96,21 +96,6 @@ def look(file):
         return looking.look(file, How(), session)
 
 
-def changed(octets, chance):
-    """The same with a few bytes changed, left out or doubled, or cut."""
-    new = bytearray(octets)
-    for _ in range(chance.randint(1, 4)):
-        at = chance.randrange(max(len(new), 1))
-        way = chance.randrange(5)
-        if way < 3:
-            new[at : at + 1] = bytes((chance.choice((0, 1, 0x1C, 0xD9, 0xFF, chance.randrange(256))),))
-        elif way == 3:
-            new[at : at + chance.randint(1, 8)] = b"" if chance.random() < 0.5 else 2 * new[at : at + 8]
-        else:
-            del new[at if chance.random() < 0.1 else len(new) :]
-    return bytes(new)
-
-
 @pytest.mark.parametrize("number", range(len(PICTURES)))
 def test_pictures(both, number):
     """Also with changed bytes."""
@@ -118,6 +103,27 @@ def test_pictures(both, number):
     for octets in [PICTURES[number], *(changed(PICTURES[number], chance) for _ in range(40))]:
         by_module, by_python = both(octets)
         assert by_module == by_python, octets.hex()[:2000]
+
+
+WINDOW = 65_536  # of a long picture so many bytes are read at its end
+ENDS = [b"\xff\xd9", b"\xff\xd9", b"\xff\xd9" + bytes(9), b"\xff", b"CANON OPTIONAL DATA\0" + bytes(42) + b"\xff\xd9"]
+
+
+def long_picture(chance):
+    """A picture of which the module reads the end alone: with two or three bytes near the place where that begins, and some end."""
+    data, end = bytearray(b"da\xff\0" * 20_000), chance.choice(ENDS)
+    at = len(data) + len(end) - WINDOW - chance.randint(0, 6)
+    mark = bytes(chance.choice((0, 0x01, 0xC4, 0xD0, 0xD9, 0xE1, 0xFE, 0xFF)) for _ in range(chance.choice((1, 2))))
+    data[at : at + 8] = bytes(4) + b"\xff" + mark + b"\0"
+    return picture(exif(ONE), end=SCAN + bytes(data) + end)
+
+
+def test_long_pictures(both):
+    chance = random.Random(1)
+    for _ in range(400):
+        octets = long_picture(chance)
+        by_module, by_python = both(octets)
+        assert by_module == by_python, octets[-WINDOW - 8 :][:16].hex() + " .. " + octets[-70:].hex()
 
 
 USUAL = [

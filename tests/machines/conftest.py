@@ -13,6 +13,7 @@ import c_source
 import guard
 import pytest
 import wasm
+from changed import changed
 from lines_of_cases import lines
 from machines import HERE, VERSION, Builds
 from prove import locked
@@ -57,16 +58,6 @@ def builds(c_folder: Path, session_folder: Path) -> Iterator[Builds]:
 # ---- files, and what the built library answers for them
 
 
-def changed(picture: bytes, rest: random.Random) -> Iterator[bytes]:
-    """A picture that is cut, and with a byte changed, mostly in its head."""
-    for _ in range(CUTS):
-        yield picture[: rest.randrange(min(len(picture), 4000))]
-    for _ in range(CHANGES):
-        octets = bytearray(picture)
-        octets[rest.randrange(min(len(picture), 3000))] = rest.randrange(256)
-        yield bytes(octets)
-
-
 def contents() -> Iterator[bytes]:
     """The blocks of the worked cases and those that fuzzers kept, the sample pictures, and these with a change."""
     for line in lines():
@@ -78,7 +69,8 @@ def contents() -> Iterator[bytes]:
         picture = path.read_bytes()
         yield picture
         if path.suffix == ".jpg":
-            yield from changed(picture, rest)
+            yield from (changed(picture[:4000], rest) + picture[4000:] for _ in range(CHANGES))
+            yield from (picture[: rest.randrange(4000)] for _ in range(CUTS))
 
 
 @pytest.fixture(scope="session")

@@ -8,6 +8,7 @@ from made_blocks import ASCII, LONG, SHORT, block, entry, segment
 from studio import SMALL_JPEG
 
 RATIONAL = 5
+SIZES = {RATIONAL: 8, 8: 2, 9: 4, 10: 8, 11: 4, 12: 8}  # of an element, by the number of the type; bytes of other types are elements
 SIX = b"Exif\0\0"
 XMP_HEAD = b"http://ns.adobe.com/xap/1.0/\0"
 EXTENSION_HEAD = b"http://ns.adobe.com/xmp/extension/\0"
@@ -65,9 +66,24 @@ def app13(*resources):
     return segment(0xED, RESOURCES_HEAD + b"".join(resources))
 
 
-def with_record(octets):
+def data_set(number, octets, record=2):
+    return struct.pack(">BBBH", 0x1C, record, number, len(octets)) + octets
+
+
+def with_record(*sets):
     """The segment with an IPTC record."""
-    return app13(resource(0x0404, octets))
+    return app13(resource(0x0404, b"".join(sets)))
+
+
+def with_texts(**texts):
+    """An Exif segment with ImageDescription, Artist and Copyright."""
+    tags = {"description": 0x010E, "artist": 0x013B, "copyright": 0x8298}
+    at, entries, values = 8 + 2 + 12 * len(texts) + 4, [], b""
+    for name in sorted(texts, key=lambda it: tags[it]):
+        octets = texts[name] + b"\0" * (5 - len(texts[name]) if len(texts[name]) < 4 else 1)
+        entries.append(entry(tags[name], ASCII, len(octets), at + len(values)))
+        values += octets + bytes(len(octets) % 2)
+    return app1(block(entries) + values)
 
 
 def extension(packet, size=100, name=None):
@@ -171,7 +187,7 @@ def _directory(made, page, order):
             made += value
             value, count = place, 4 if kind in (1, 7) else 1
         elif isinstance(value, bytes):
-            count = len(value) // 8 if kind == RATIONAL else len(value)
+            count = len(value) // SIZES.get(kind, 1)
             if len(value) > 4:
                 made += bytes(len(made) % 2)
                 place, value = len(made), value

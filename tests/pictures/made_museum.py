@@ -6,7 +6,7 @@ What `first_night` and `second_night` give is by path; a `Link` is a symbolic li
 
 import os
 import struct
-from typing import Dict, NamedTuple, Union
+from typing import Any, Dict, NamedTuple, Union
 
 import made_raw
 from growing import FORMATS, Parts, big_tiff
@@ -14,6 +14,7 @@ from made_blocks import ASCII, BLOCKS, LONG, SHORT, UNDEFINED, segment, with_exi
 from made_boxes import PICTURE, Item, heif, item_exif
 from made_files import (
     RATIONAL,
+    SIX,
     Placed,
     app1,
     app1_xmp,
@@ -28,6 +29,7 @@ from made_files import (
     resource,
     small_tiff,
     tiff,
+    webp,
     with_record,
     xmp,
 )
@@ -138,6 +140,17 @@ def refused() -> Files:
             wrapped = with_iptc if block.startswith(b"\x1c") else with_exif
             files[f"refused/{cause}.jpg"] = wrapped(picture(300 + number), block)
     return files
+
+
+def refused_elsewhere() -> Files:
+    """Refused blocks in other formats, two of them in one file, and in the segments of a JPEG."""
+    unsorted, doubled = BLOCKS["Unsorted"], BLOCKS["Doubled"]
+    return {
+        "doubled.webp": webp((b"VP8 ", b"pixels"), (b"EXIF", doubled), (b"XMP ", xmp("<dc:format>one</dc:format>"))),
+        "two.jpg": jpeg(app1(unsorted), app1(doubled), base=picture(47)),
+        "unsorted.png": png(chunk(b"eXIf", unsorted)),
+        "unsorted.webp": webp((b"VP8 ", b"pixels"), (b"EXIF", SIX + unsorted)),
+    }
 
 
 def states() -> Files:
@@ -345,6 +358,36 @@ def dated(number: int, text: str) -> bytes:
     return jpeg(app1(small_tiff((0x0132, ASCII, text.encode() + b"\0"))), base=picture(number))
 
 
+def taken(number: int, *more, iptc: str = "", packet: str = "", digest: bytes = b"") -> bytes:
+    """A picture with a date in Exif, in IPTC and in XMP, as they are given."""
+    exif = [(tag, ASCII, text) for tag, text in zip((0x9003, 0x9011, 0x9291), more) if text]
+    entries = ((0x010F, ASCII, b"Leica\0"), *([(0x8769, LONG, exif)] if exif else []))
+    dates = dataset(55, iptc[:8]) + dataset(60, iptc[8:]) if iptc else b""
+    segments = [app13(resource(0x0404, dates), *([resource(0x0425, digest)] if digest else []))] if iptc else []
+    xmps = [app1_xmp(xmp("", f"xmlns:photoshop='http://ns.adobe.com/photoshop/1.0/' photoshop:DateCreated='{packet}'"))] if packet else []
+    return jpeg(app1(small_tiff(*entries)), *segments, *xmps, base=picture(number))
+
+
+def clocks() -> Files:
+    """When a picture was taken: with parts of a second, zones and faults, in each standard and in several."""
+    there, wrong = b"2025:03:31 14:30:00\0", b"2025:02:30 14:30:00\0"
+    return {
+        "clocks/exif-only.jpg": taken(210, there),
+        "clocks/exif-part.jpg": taken(211, there, b"", b"25\0"),
+        "clocks/exif-part-spaces.jpg": taken(212, there, b"", b" 25 \0"),
+        "clocks/exif-part-wrong.jpg": taken(213, there, b"", b"x\0"),
+        "clocks/exif-zone.jpg": taken(214, there, b"+02:00\0"),
+        "clocks/exif-zone-and-part.jpg": taken(215, there, b"-05:30\0", b"250\0"),
+        "clocks/exif-zone-wrong.jpg": taken(216, there, b"CEST\0", b"25\0"),
+        "clocks/iptc.jpg": taken(217, iptc="20250331153000+0100"),
+        "clocks/iptc-changed.jpg": taken(218, iptc="20250331153000+0100", packet="2025-03-31T16:30:00", digest=b"changed since then"[:16]),
+        "clocks/iptc-wrong.jpg": taken(219, wrong, iptc="20250230153000+0100", packet="2025-03-31T16:30:00.5Z"),
+        "clocks/none.jpg": taken(220, b"    :  :     :  :  \0"),
+        "clocks/xmp-and-iptc.jpg": taken(221, iptc="20250331153000+0100", packet="2025-03-31T16:30:00+02:00"),
+        "clocks/xmp-day.jpg": taken(222, packet="2025-03-31"),
+    }
+
+
 def first_night() -> Files:
     pages = tiff(page((0x013B, ASCII, b"Anna\0")), page((0x013B, ASCII, b"Ben\0")))
     return {
@@ -359,6 +402,7 @@ def first_night() -> Files:
         **beside("Anna Moor"),
         **copies(),
         **odd_names(),
+        **clocks(),
         **desk("desk"),
         "work/dated.jpg": dated(86, "2025:03:31 14:30"),
         "work/dated-too.jpg": dated(87, "2025:03:31 14:31"),
@@ -412,10 +456,109 @@ def clocked(number: int, date: bytes, time: bytes) -> bytes:
     return jpeg(app1(block), with_record(dataset(62, date) + dataset(63, time + b"+0000")), base=picture(number))
 
 
+def worded(number: int, standards: str = "EIX", **words) -> bytes:
+    """A picture with the same words in these standards, but for those that `iptc` has, and with a date, an orientation, a rating and a place."""
+    exif, iptc, packet = [], {}, []
+    for name, text in words.items():
+        texts = text if isinstance(text, list) else [text]
+        if name in EXIF_TAGS:
+            exif.append((EXIF_TAGS[name], ASCII, texts[0].encode() + b"\0"))
+        if name in NUMBERS:
+            iptc[name] = text
+        if name in XMP_NAMES:
+            one, kind = XMP_NAMES[name]
+            packet.append(languages(one, x_default=texts[0]) if kind == "Alt" else members(one, kind, *texts))
+    exif += [(0x0112, SHORT, words["orientation"])] if "orientation" in words else []
+    exif += [(0x8769, LONG, [(0x9003, ASCII, words["taken"].encode() + b"\0")])] if "taken" in words else []
+    exif += [position(*words["place"])] if "place" in words else []
+    packet += [f"<xmp:Rating>{words['rating']}</xmp:Rating>"] if "rating" in words else []
+    iptc.update(words.get("iptc", {}))
+    segments = [app1(small_tiff(*sorted(exif)))] if "E" in standards and exif else []
+    segments += [with_record(record(**iptc))] if "I" in standards and iptc else []
+    return jpeg(*segments, *([app1_xmp(xmp("".join(packet)))] if "X" in standards and packet else []), base=picture(number))
+
+
+EXIF_TAGS = {"caption": 0x010E, "creator": 0x013B, "copyright": 0x8298, "software": 0x0131, "modified": 0x0132}
+XMP_NAMES = {
+    "caption": ("description", "Alt"),
+    "title": ("title", "Alt"),
+    "creator": ("creator", "Seq"),
+    "keywords": ("subject", "Bag"),
+    "copyright": ("rights", "Alt"),
+}
+LONG_CAPTION = "A bowl of blue glazed clay that was found near the salt works in {} and came to the museum with {} others of its kind"
+
+
+class Edit(NamedTuple):
+    """The words of a picture before and after, and the standards that have them."""
+
+    before: Dict[str, Any]
+    after: Dict[str, Any]
+    standards: str = "EIX"
+    standards_after: str = ""
+
+
+EDITS = {
+    "accents": Edit({"caption": "Krug fur Ol"}, {"caption": "Krug für Öl"}),
+    "again-copyright": Edit({"copyright": "Ben"}, {"copyright": "Museum of Salt"}),
+    "blank": Edit({"caption": "A bowl "}, {"caption": "A  bowl"}),
+    "brackets": Edit({"caption": "A [-bowl-] \t of clay"}, {"caption": "A {+bowl+} \u200b of clay"}),
+    "caption": Edit({"caption": LONG_CAPTION.format(1820, 12)}, {"caption": LONG_CAPTION.format(1280, 12)}),
+    "caption-both": Edit({"caption": LONG_CAPTION.format(1820, 12)}, {"caption": LONG_CAPTION.format(1280, 13)}),
+    "caption-end": Edit({"caption": LONG_CAPTION.format(1820, 12)}, {"caption": LONG_CAPTION.format(1820, 12) + ", recto"}),
+    "caption-of-iptc": Edit({"caption": "A bowl"}, {"caption": "A bowl", "iptc": {"caption": "A vase"}}),
+    "caption-of-iptc-too": Edit({"caption": "A bowl"}, {"caption": "A bowl", "iptc": {"caption": "A vase"}}),
+    "caption-of-all": Edit({"caption": "A bowl"}, {"caption": "A vase"}),
+    "case": Edit({"creator": "anna moor"}, {"creator": "Anna Moor"}),
+    "copyright": Edit({"copyright": "Anna"}, {"copyright": "Museum of Salt"}),
+    "creator-and-date": Edit({"creator": "Anna", "taken": "2025:03:31 14:30:00"}, {"creator": "Ben", "taken": "2025:03:31 15:30:00"}),
+    "date": Edit({"taken": "2025:03:31 14:30:00"}, {"taken": "2025:03:31 15:30:00"}),
+    "date-also": Edit({"taken": "2025:04:01 14:30:00"}, {"taken": "2025:04:01 15:30:00"}),
+    "date-day": Edit({"taken": "2025:03:31 14:30:00"}, {"taken": "2025:04:01 14:30:00"}),
+    "date-minutes": Edit({"taken": "2025:03:31 14:30:00"}, {"taken": "2025:03:31 14:37:00"}),
+    "date-years": Edit({"taken": "2000:01:01 00:00:00"}, {"taken": "2025:03:31 14:30:00"}),
+    "keyword-in": Edit({"keywords": ["clay", "bowl"]}, {"keywords": ["clay", "bowl", "salt"]}),
+    "keyword-in-also": Edit({"keywords": ["glaze"]}, {"keywords": ["glaze", "salt"]}),
+    "keyword-out": Edit({"keywords": ["clay", "bowl", "salt"]}, {"keywords": ["clay", "bowl"]}),
+    "keywords-join": Edit({"keywords": ["clay", "bowl"]}, {"keywords": ["clay, bowl"]}),
+    "keywords-order": Edit({"keywords": ["clay", "bowl", "salt"]}, {"keywords": ["salt", "clay", "bowl"]}, "I"),
+    "keywords-twice": Edit({"keywords": ["clay", "bowl"]}, {"keywords": ["clay", "bowl", "bowl"]}, "I"),
+    "loses-xmp": Edit({"caption": "A bowl", "title": "Salt 5"}, {"caption": "A bowl", "title": "Salt 5"}, "EIX", "EI"),
+    "gets-xmp": Edit({"caption": "A bowl", "creator": "Anna"}, {"caption": "A bowl", "creator": "Anna"}, "E", "EX"),
+    "members-order": Edit({"creator": ["Anna", "Ben"]}, {"creator": ["Ben", "Anna"]}, "X"),
+    "number-1": Edit({"title": "Inv. 1820"}, {"title": "Inv. 1821"}),
+    "number-2": Edit({"title": "Inv. 1830"}, {"title": "Inv. 1831"}),
+    "number-3": Edit({"title": "Inv. 1840"}, {"title": "Inv. 1841"}),
+    "number-4": Edit({"title": "Inv. 1850"}, {"title": "Inv. 1851"}),
+    "only-program": Edit({"software": "Salt 1"}, {"software": "Salt 2"}),
+    "orientation": Edit({"orientation": 1}, {"orientation": 6}),
+    "place": Edit({"place": (51, 11)}, {"place": (51, 12)}),
+    "place-in": Edit({"creator": "Anna"}, {"creator": "Anna", "place": (51, 11)}),
+    "place-out": Edit({"creator": "Anna", "place": (51, 11)}, {"creator": "Anna"}),
+    "program": Edit({"creator": "Anna", "software": "Salt 1"}, {"creator": "Eva", "software": "Salt 2"}),
+    "rating": Edit({"rating": 3}, {"rating": 4}),
+    "title-1": Edit({"title": "A bowl"}, {"title": "Bowl of clay"}),
+    "title-2": Edit({"title": "A vase"}, {"title": "Vase of salt"}),
+    "title-3": Edit({"title": "A jug"}, {"title": "Jug of Anna"}),
+    "title-in": Edit({"creator": "Anna"}, {"creator": "Anna", "title": "A bowl"}),
+    "title-out": Edit({"creator": "Anna", "title": "A bowl"}, {"creator": "Anna"}),
+}
+
+
+def edited(is_after: bool) -> Files:
+    """The pictures of `EDITS`, before or after."""
+    files: Files = {}
+    for number, (name, edit) in enumerate(EDITS.items(), 230):
+        standards = edit.standards_after if is_after and edit.standards_after else edit.standards
+        files[f"words/{name}.jpg"] = worded(number, standards, **(edit.after if is_after else edit.before))
+    return files
+
+
 def before() -> Files:
     """Pictures that are edited by themselves, and nowhere else in the museum."""
     block = app1(small_tiff(*camera()))
     return {
+        **edited(False),
         "clock.jpg": clocked(200, b"20250331", b"143000"),
         "credentials.jpg": jpeg(block, segment(0xE4, bytes(60)), segment(0xEB, JUMBF), base=picture(202)),
         "fault.jpg": jpeg(block, segment(0xEB, JUMBF), base=picture(205)),
@@ -425,9 +568,53 @@ def before() -> Files:
     }
 
 
+def spoiled() -> Files:
+    """Pictures whose texts of IPTC and XMP should be the same, and differ in form: a wrong character set, a cut, a list in one text, an empty field."""
+    long = "A bowl of blue glazed clay that was found near the salt works of Halle in 1820"
+    pairs = {
+        "set-of-iptc": ({"creator": "Zo\u00c3\u00ab"}, {"creator": "Zoë"}),
+        "set-of-xmp": ({"creator": "Zoë"}, {"creator": "Zo\u00c3\u00ab"}),
+        "marks-of-iptc": ({"creator": "Zo?"}, {"creator": "Zoë"}),
+        "marks-of-xmp": ({"creator": "Zoë"}, {"creator": "Zo?"}),
+        "cut": ({"title": long[:64]}, {"title": long}),
+        "cut-of-xmp": ({"title": long}, {"title": long[:64]}),
+        "cut-earlier": ({"title": long[:50]}, {"title": long}),
+        "empty-in-iptc": ({"title": ""}, {"title": "Salt"}),
+        "empty-in-xmp": ({"title": "Salt"}, {"title": ""}),
+        "joined": ({"keywords": ["clay; bowl; salt"]}, {"keywords": ["clay", "bowl", "salt"]}),
+        "joined-in-xmp": ({"keywords": ["clay", "bowl"]}, {"keywords": ["clay, bowl"]}),
+        "more-than-five": ({"keywords": ["a1"]}, {"keywords": [f"a{number}" for number in range(1, 9)]}),
+        "order": ({"creator": ["Anna", "Ben"]}, {"creator": ["Ben", "Anna"]}),
+        "order-of-keywords": ({"keywords": ["clay", "bowl"]}, {"keywords": ["bowl", "clay"]}),
+    }
+    files: Files = {}
+    for number, (name, (iptc, packet)) in enumerate(pairs.items(), 330):
+        files[f"{name}.jpg"] = worded(number, "IX", **{**packet, "iptc": iptc})
+    undeclared = app13(resource(0x0404, dataset(80, "\u201cZoë\u201d \u2013 5 \u20ac".encode("cp1252"))))
+    return {
+        **files,
+        "undeclared.jpg": jpeg(undeclared, app1_xmp(xmp(members("creator", "Seq", "\u201cZoë\u201d \u2013 5 \u20ac"))), base=picture(329)),
+    }
+
+
+def masters() -> Files:
+    """Pictures of which others are made, with the same stem or another one."""
+    make, entries = {ending: it for ending, it in FORMATS.values()}, camera()
+    flat = Parts(tuple(it for it in entries if isinstance(it[2], bytes)))
+    names = "a/1.dng a/1.tif a/2.tif b/2.tif a/3.tif a/4.png a/5.jpg b/6.tif a/7.TIF a/8.png c/9.tif"
+    return {it: made_raw.MAKERS["dng"](b"A bowl") if it.endswith("dng") else make[it.lower()[-3:]](flat) for it in names.split()}
+
+
+def derivatives() -> Files:
+    """The pictures that were made of them: of some two, or not clear of which."""
+    names = "a/1.jpg web/2.jpg web/3.jpg a/4.jpg a/5.jpg web/6.jpg x/6.jpg a/7.jpg a/7.png web/8.JPG c/10.jpg"
+    return {name: captioned(300 + number) for number, name in enumerate(names.split())}
+
+
 def after() -> Files:
     """The clock an hour later, a cut and a fault in front of credentials, another second picture, a MakerNote that has moved."""
     return {
+        **edited(True),
         "clock.jpg": clocked(200, b"20250331", b"153000"),
         "credentials.jpg": before()["credentials.jpg"][:-60],
         "fault.jpg": before()["fault.jpg"].replace(b"\xff\xeb", b"\0\xeb"),

@@ -9,6 +9,7 @@ import shutil
 import time
 
 import made_museum
+import made_values
 import pytest
 from exifnorm_pictures.cli import main
 
@@ -39,7 +40,7 @@ def standing_clock(zone="UTC"):
     time.tzset()
 
 
-def run(line, folder):
+def run(line, folder, is_terminal=False):
     """The status of a command line, its lines, and its messages; `*` in a word is expanded as a shell does it."""
     words = []
     for word in shlex.split(line):
@@ -47,6 +48,7 @@ def run(line, folder):
         words += names or [word]
     with contextlib.ExitStack() as stack:
         out, messages = (stack.enter_context(open(folder / f".{name}", "w+", encoding="utf-8", newline="")) for name in ("out", "messages"))
+        out.isatty = lambda: is_terminal
         stack.enter_context(contextlib.redirect_stdout(out))
         stack.enter_context(contextlib.redirect_stderr(messages))
         try:
@@ -91,8 +93,13 @@ def make(folder):
     for name, words in ((".plain", ""), (".full", WHOLE)):
         done(f"index archive --jobs 1 --catalogue {name}{words}", folder)
     done("index one/desk --jobs 1 --pixels --catalogue .few", folder)
+    for number, name in enumerate(("values", "later")):
+        made_museum.put(f"edits/{name}", {"pages.tif": made_values.pages(number, 4), **made_museum.refused_elsewhere()})
     made_museum.put("edits/before", made_museum.before())
     made_museum.put("edits/after", made_museum.after(), made_museum.TIME + 86_400)
+    made_museum.put("edits/masters", made_museum.masters())
+    made_museum.put("edits/web", made_museum.derivatives())
+    made_museum.put("edits/spoiled", made_museum.spoiled())
     put_bag(folder / "bag")
 
 

@@ -40,6 +40,7 @@ PROGRAMS = {
     "hashdeep": "hashdeep",
     "heif-enc": "libheif-examples",
     "perl": "perl",
+    "valgrind": "valgrind",
 }
 MODULES = {"piexif": "python3-piexif", "distributed": "python3-distributed", "PIL": "python3-pil", "rdflib": "python3-rdflib"}
 
@@ -175,10 +176,10 @@ def read(path):
         return file.read()
 
 
-def sql_rows(path, query):
-    """What a query says of a SQLite file."""
-    with contextlib.closing(sqlite3.connect(path)) as base:
-        return base.execute(query).fetchall()
+def sql_rows(path, statement, *values):
+    """The rows that a statement has of a SQLite file; what it writes is kept."""
+    with contextlib.closing(sqlite3.connect(path)) as base, base:
+        return base.execute(statement, values).fetchall()
 
 
 def tool(folder, *words):

@@ -25,10 +25,9 @@ def test_a_refused_block_of_each_kind_is_counted(where, kind, folder, called):
 
 
 @pytest.mark.parametrize("count", range(4))
-def test_groups_are_apart_by_one_blank_line(count, folder, called):
+def test_groups_are_apart_by_one_blank_line(count, folder, called, indexed):
     put(folder, {f"p/{name}{number}.jpg": jpeg(app1(exif(b"%03d" % number))) for number in range(count) for name in "ab"})
-    put(folder, {"p/alone.jpg": jpeg(app1(exif(b"one")))})
-    called("index", "p", "--catalogue", "c", "--quiet")
+    indexed({"alone.jpg": jpeg(app1(exif(b"one")))})
     *groups, totals = re.split("\n\n", called("same", "c")[1]) if count > 1 else ["", called("same", "c")[1]]
     assert totals.splitlines()[-2 if count else -1].startswith(f"{count} group") and "\n\n" not in totals
     assert [it[:11] for it in groups] == (["2 pictures:"] * count if count > 1 else [""])

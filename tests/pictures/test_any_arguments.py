@@ -11,6 +11,7 @@ import pytest
 from made_files import app1, exif, jpeg
 
 from exifnorm_pictures.cli.parser import parsers
+from exifnorm_pictures.cli import main
 
 VALUES = (
     "--",
@@ -80,8 +81,6 @@ def calls(command: str, parser: argparse.ArgumentParser):
 @pytest.fixture
 def end(folder, monkeypatch, capsys):
     """Runs a command in a folder with a picture and a catalogue: the status, and what is on standard error."""
-    from exifnorm_pictures.cli import main
-
     monkeypatch.chdir(folder)
     monkeypatch.setattr("sys.stdin", open(os.devnull))
     (folder / "p").mkdir()

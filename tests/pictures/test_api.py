@@ -20,12 +20,11 @@ from xml.etree import ElementTree
 import pytest
 from made_blocks import ASCII, BLOCKS, block, entry, with_exif
 from made_boxes import Item, box, heif, item_exif, jp2, jxl, uuid
-from made_files import app1, app1_xmp, app13, chunk, exif, jpeg, png, png_xmp, resource, title, webp, xmp
+from made_files import app1, app13, app1_xmp, chunk, data_set, exif, jpeg, png, png_xmp, resource, title, webp, with_record, xmp
 from made_more_files import gif, gif_xmp, psd
 from made_raw import arw, cr2, dng, nef, orf, pef, rw2, srw, whole_raf
 from studio import SMALL_JPEG, TOP, needs, tool
 from test_bigtiff import big, fields
-from test_captions import data_set, with_record
 from test_cr3 import cr3, structures
 
 import exifnorm
@@ -36,6 +35,8 @@ from exifnorm_pictures.catalogue import texts
 from exifnorm_pictures.extract import readers
 from exifnorm_pictures.fields import labels, packing, typed as xmp_types
 from exifnorm_pictures.fields.field import Field
+from exifnorm_pictures.extract.formats import jpeg as reader
+from exifnorm_pictures.judge import judge
 
 BEFORE, AFTER = (Path(TOP) / "samples" / it for it in ("before", "after"))
 BOWL = "ceramics/2003-12-bowl.jpg"
@@ -160,20 +161,6 @@ def test_dates_and_numbers_of_iptc():
     found = pictures.read_bytes(jpeg(record))
     zone = timezone(timedelta(hours=1))
     assert [it.value for it in found.fields] == [4, "in May", date(2019, 3, 12), time(11, 20, 45, tzinfo=zone), "20191399"]
-
-
-def test_values_of_xmp():
-    structure = "<xmpMM:DerivedFrom xmlns:xmpMM='http://ns.adobe.com/xap/1.0/mm/' rdf:parseType='Resource'><dc:source>a</dc:source></xmpMM:DerivedFrom>"
-    texts = "<dc:subject><rdf:Bag><rdf:li>b</rdf:li><rdf:li>a</rdf:li></rdf:Bag></dc:subject><dc:source>c</dc:source>"
-    titles = "<dc:title><rdf:Alt><rdf:li xml:lang='de'>Krug</rdf:li><rdf:li xml:lang='x-default'>Vase</rdf:li></rdf:Alt></dc:title>"
-    found = pictures.read_bytes(jpeg(app1_xmp(xmp(structure + texts + titles))))
-    assert [found.get(it) for it in ("XMP-dc:subject", "source", "title", "XMP-xmpMM:DerivedFrom")] == [
-        ("b", "a"),
-        "c",
-        "Vase",
-        {"dc:source": "a"},
-    ]
-    assert found.find("XMP-xmpMM:DerivedFrom")[0].exact == '{dc:source="a"}'
 
 
 def as_exiftool_prints(value):
@@ -507,13 +494,6 @@ def test_pages_that_share_a_block_cost_it_once(monkeypatch, folder, called):
     assert status == 0 and printed.count("word 0; word 1;") == 1 and len(read) == 2
 
 
-@pytest.mark.parametrize("cause", sorted(it for it in BLOCKS if len(BLOCKS[it]) < 60_000))
-def test_each_cause_has_a_sentence(cause):
-    found = pictures.read_bytes(with_exif(SMALL_JPEG, BLOCKS[cause]))
-    for it in found.refusals:
-        assert it.sentence and it.remedy and it.block in str(it)
-
-
 def test_three_results():
     assert pictures.compare(BEFORE / VASE, AFTER / VASE).same is True
     differs = pictures.compare(BEFORE / BOWL, AFTER / BOWL)
@@ -622,8 +602,6 @@ def test_what_is_no_picture(tmp_path):
 
 
 def test_a_mistake_of_ours_affects_one_picture(monkeypatch):
-    from exifnorm_pictures.extract.formats import jpeg as reader
-
     def fails(*_):
         raise ZeroDivisionError("a mistake")
 
@@ -758,8 +736,6 @@ def test_blocks_are_read_once(monkeypatch):
     calls, made = [], []
     normal = exifnorm.normal
     monkeypatch.setattr(exifnorm, "normal", lambda block: calls.append(block) or normal(block))
-    from exifnorm_pictures.judge import judge
-
     of_form = judge.fields_of_form
     monkeypatch.setattr(judge, "fields_of_form", lambda form: made.append(form) or of_form(form))
     bowl = pictures.read(BEFORE / BOWL)

@@ -222,7 +222,7 @@ class TestCurrentFolder:
         """As any other folder of PYTHONPATH."""
         path = os.pathsep.join((str(folder), os.path.join(TOP, "python")))
         done = subprocess.run(
-            [*WAYS[way](folder), "--version"], cwd=folder, capture_output=True, env={**Studio.environment(), "PYTHONPATH": path}
+            [*WAYS[way](folder), "--help"], cwd=folder, capture_output=True, env={**Studio.environment(), "PYTHONPATH": path}
         )
         assert b"a file of the current folder was taken" in done.stderr, done
 

@@ -11,7 +11,7 @@ from made_files import K, T, page, tiff
 from pairs import DIFFERENT, SAME, UNDECIDED, Pair, of_pairs
 from studio import needs, run, write
 
-from exifnorm_pictures.extract import coded_picture
+from exifnorm_pictures.extract import coded_picture, extraction
 from exifnorm_pictures.extract.formats.tiff import read_big
 from exifnorm_pictures.model import budgets
 
@@ -133,8 +133,6 @@ def test_a_file_with_a_hole(tmp_path):
         file.write(whole[:8] + struct.pack("<Q", far))
         file.seek(far)
         file.write(struct.pack("<Q", 1) + struct.pack("<HHQ8s", 0x013B, ASCII, 5, b"Anna\0\0\0\0") + bytes(8))
-    from exifnorm_pictures.extract import extraction
-
     found = extraction.blocks_of_file(os.fsencode(name))
     assert [it.name for it in found.blocks] == ["Exif"] and b"Anna\0" in found.blocks[0].data and at
     assert coded_picture.of_file(os.fsencode(name), budgets.Budget()).digest != ""

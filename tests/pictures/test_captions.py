@@ -1,18 +1,19 @@
 """`captions`: the texts of Exif, IPTC and XMP by label, each with its fields."""
 
 import csv
+import hashlib
 import io
 import json
 import re
-import struct
 import subprocess
 
 import pytest
 from labelled_fields import FIELDS
 from made_blocks import ASCII, BLOCKS, LONG, UNDEFINED, block, entry, table, with_exif
-from made_files import app1, app1_xmp, app13, jpeg, mpf, resource, xmp
+from made_files import app1, app13, app1_xmp, data_set, jpeg, mpf, resource, with_record, with_texts, xmp
 from studio import SMALL_JPEG, needs, put, tool
 
+from exifnorm import pictures
 from exifnorm_pictures.fields.labels import DATE, LABELS
 
 # The fields that a label has in each standard; Windows and TIFF have further ones
@@ -27,25 +28,6 @@ TAGS = {
 def captions(called):
     """What `captions` prints of some files: the status, and the text."""
     return lambda *words, **files: called("show", "--captions", *words, *(f"{it}.jpg" for it in files), **files)[:2]
-
-
-def data_set(number, octets, record=2):
-    return struct.pack(">BBBH", 0x1C, record, number, len(octets)) + octets
-
-
-def with_record(*sets):
-    return app13(resource(0x0404, b"".join(sets)))
-
-
-def with_texts(**texts):
-    """An Exif segment with ImageDescription, Artist and Copyright."""
-    tags = {"description": 0x010E, "artist": 0x013B, "copyright": 0x8298}
-    at, entries, values = 8 + 2 + 12 * len(texts) + 4, [], b""
-    for name in sorted(texts, key=lambda it: tags[it]):
-        octets = texts[name] + b"\0" * (5 - len(texts[name]) if len(texts[name]) < 4 else 1)
-        entries.append(entry(tags[name], ASCII, len(octets), at + len(values)))
-        values += octets + bytes(len(octets) % 2)
-    return app1(block(entries) + values)
 
 
 # The table of labels
@@ -284,3 +266,33 @@ def test_a_further_field_is_a_further_line(key, called, folder):
     )
     one, other = (called("show", name)[1].splitlines() for name in ("a.jpg", "b.jpg"))
     assert len(other) == len(one) + 1 and [line for line in other if line in one] == one
+
+
+# ---- Which text counts where there is space for one, by the guidelines of the Metadata Working Group: Exif, XMP, IPTC; and IPTC before XMP if it was
+# changed by a program that doesn't know XMP, which Photoshop's digest of the record shows.
+
+RECORD = data_set(116, b"of IPTC")
+RIGHTS = "<dc:rights><rdf:Alt><rdf:li xml:lang='x-default'>of XMP</rdf:li></rdf:Alt></dc:rights>"
+
+
+def read(*resources):
+    return pictures.read_bytes(jpeg(app13(*(resource(*it) for it in resources)), app1_xmp(xmp(RIGHTS))))
+
+
+@pytest.mark.parametrize("of, expected", [(None, "of XMP"), (RECORD, "of XMP"), (RECORD + b" ", "of IPTC")])
+def test_the_digest_of_the_record(of, expected):
+    digest = [] if of is None else [(0x0425, hashlib.md5(of).digest())]
+    for resources in ([(0x0404, RECORD), *digest], [*digest, (0x0404, RECORD)]):
+        picture = read(*resources)
+        assert picture.texts("copyright") == (expected,) and picture.is_whole
+        assert [(it.label, it.kind, [one.line for one in it.texts]) for it in picture.conflicts] == [
+            ("copyright", "different", ["of IPTC", "of XMP"])
+        ]
+
+
+def test_a_digest_without_its_record():
+    assert read((0x0425, bytes(16))).texts("copyright") == ("of XMP",)
+
+
+def test_texts_that_are_the_same_are_no_conflict():
+    assert read((0x0404, data_set(116, b"of XMP"))).conflicts == ()

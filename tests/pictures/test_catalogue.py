@@ -2,7 +2,6 @@
 
 import json
 import os
-import sqlite3
 import subprocess
 import sys
 import time
@@ -10,7 +9,7 @@ import time
 import exifnorm
 from in_process import InFolder
 from made_blocks import MAKE, block, with_exif
-from studio import SMALL_JPEG, Studio, WithPictures, needs, put, read, run, write
+from studio import SMALL_JPEG, Studio, WithPictures, needs, put, read, run, sql_rows, write
 
 from exifnorm_pictures.model.problems import TEXTS
 
@@ -35,12 +34,9 @@ class Archive(InFolder):
 
     def rows(self, name="c"):
         """Each picture's row: its problem, and the digests of its blocks."""
-        base = sqlite3.connect(self.path(name))
         query = "SELECT path, problem, (SELECT group_concat(digest) FROM blocks WHERE picture = id) FROM pictures"
-        found = {os.path.relpath(os.fsdecode(path), self.path("p")): tuple(row) for path, *row in base.execute(query)}
-        self.assertEqual(base.execute("PRAGMA foreign_key_check").fetchall(), [])
-        base.close()
-        return found
+        self.assertEqual(sql_rows(self.path(name), "PRAGMA foreign_key_check"), [])
+        return {os.path.relpath(os.fsdecode(path), self.path("p")): tuple(row) for path, *row in sql_rows(self.path(name), query)}
 
     def run_again(self, *words, status=0, **more):
         """The report of a further run, by the names of the files."""
@@ -66,10 +62,8 @@ class Archive(InFolder):
         before = time.strftime("%Y-%m-%dT%H:%M:%SZ", time.gmtime())
         self.run_again("--again", TZ="Asia/Tokyo")
         after = time.strftime("%Y-%m-%dT%H:%M:%SZ", time.gmtime())
-        base = sqlite3.connect(self.path("c"))
-        runs = list(base.execute("SELECT started, ended FROM runs ORDER BY id"))
-        versions = [it for it, in base.execute("SELECT exifnorm FROM runs ORDER BY id")]
-        base.close()
+        runs = sql_rows(self.path("c"), "SELECT started, ended FROM runs ORDER BY id")
+        versions = [it for it, in sql_rows(self.path("c"), "SELECT exifnorm FROM runs ORDER BY id")]
         moments = [runs[2][1], before, *runs[3], after]
         self.assertEqual(moments, sorted(moments))
         library = exifnorm.version()
@@ -104,9 +98,7 @@ class Archive(InFolder):
         os.rename(self.path("p", "a.jpg"), self.path("p", "x.jpg"))
         os.link(self.path("p", "x.jpg"), self.path("p", "y.jpg"))
         self.assertEqual(self.run_again()[1], {"unchanged": 3, "accepted": 2, "Moved": 1})
-        base = sqlite3.connect(self.path("c"))
-        found = base.execute("SELECT detail FROM pictures WHERE problem = 'Moved'").fetchall()
-        base.close()
+        found = sql_rows(self.path("c"), "SELECT detail FROM pictures WHERE problem = 'Moved'")
         self.assertEqual(found, [(f"to {self.path('p', 'x.jpg')}",)])
 
     def test_a_folder_that_is_gone_and_back(self):
@@ -169,10 +161,8 @@ class Processes(WithPictures):
         return json.loads(done.stdout)
 
     def paths(self):
-        base = sqlite3.connect(self.path("c"))
-        found = [os.path.basename(os.fsdecode(it[0])) for it in base.execute("SELECT path FROM pictures WHERE problem IS NULL ORDER BY id")]
-        base.close()
-        return found
+        found = sql_rows(self.path("c"), "SELECT path FROM pictures WHERE problem IS NULL ORDER BY id")
+        return [os.path.basename(os.fsdecode(path)) for path, in found]
 
     def test_slow_pictures(self):
         """A process returns what it has after some time; another or the same one looks at the others."""
@@ -259,10 +249,9 @@ class Rights(WithPictures):
             },
         )
         self.assertEqual(counts["counts"], {"unchanged": 1, "Unreadable": 2, "Vanished": 1})
-        base = sqlite3.connect(self.path("c"))
-        kept = base.execute("SELECT problem FROM pictures WHERE CAST(path AS TEXT) LIKE '%c.jpg'").fetchall()
+        kept = sql_rows(self.path("c"), "SELECT problem FROM pictures WHERE CAST(path AS TEXT) LIKE '%c.jpg'")
         self.assertEqual(kept, [(None,)])
-        self.assertEqual(base.execute("SELECT count(*) FROM blocks").fetchone(), (4,), "what b.jpg said is kept")
+        self.assertEqual(sql_rows(self.path("c"), "SELECT count(*) FROM blocks"), [(4,)], "what b.jpg said is kept")
         os.chmod(self.path("p", "b.jpg"), 0o644)
         os.chmod(self.path("p", "closed"), 0o755)
         done = self.as_nobody("index", "p", "--catalogue", "c", "--quiet")

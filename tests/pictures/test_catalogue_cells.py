@@ -18,6 +18,7 @@ from exifnorm_pictures.judge import judge
 from exifnorm_pictures.model.records import BLOCKS, PICTURES, block_of_row, not_read_of_row
 from exifnorm_pictures.model.columns import Damaged
 from exifnorm_pictures.model.found import Blocks
+from exifnorm_pictures.catalogue import store
 
 VALUES = {
     "NULL": None,
@@ -175,8 +176,6 @@ def test_fields_are_unpacked_where_they_are_needed(tmp_path, monkeypatch, called
 
 def test_rows_that_share_their_bytes(catalogue, monkeypatch):
     """What a picture has in a table is bounded, however few bytes the file has."""
-    from exifnorm_pictures.catalogue import store
-
     with Catalogue("c") as base:
         pictures = list(base.pictures())
         assert any(base.blocks_of(it) for it in pictures)

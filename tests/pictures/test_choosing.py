@@ -2,18 +2,24 @@
 
 import json
 import os
+import re
 import shutil
-import sqlite3
 import struct
 import subprocess
+import xml.etree.ElementTree as ET
+from pathlib import Path
 
 import pytest
+from labelled_fields import FIELDS
 from made_blocks import BLOCKS, LONG, MAKE, block, entry, table
-from made_files import app1, app1_xmp, exif, iim, jpeg, with_record, xmp
-from studio import SMALL_JPEG, needs, put, tool
+from made_files import app1, app1_xmp, data_set, exif, iim, jpeg, with_record, with_texts, xmp
+from studio import SMALL_JPEG, TOP, needs, put, sql_rows, tool
 
+import exifnorm
 from exifnorm_pictures.comparison.changed.states import Weight, weights_of
 from exifnorm_pictures.fields.choosing import SAVES, Choice, kinds_of
+from exifnorm_pictures.fields.field_names import is_possible, names_and_groups
+from exifnorm_pictures.fields.labels import OF_FIELDS, POSITION, fields_by_label
 from exifnorm_pictures.model.found import EXIF, IPTC, XMP
 
 BUT = "the same but for the fields left out"
@@ -116,7 +122,7 @@ OTHER_NAMES = [
 
 
 @needs("exiftool")
-def test_other_names(folder, compared, checks):
+def test_choosing(folder, compared, checks):
     compared(a=SMALL_JPEG, b=by_exiftool(folder))
     every = compared()[2]
     for name, printed in OTHER_NAMES:
@@ -333,7 +339,7 @@ def test_equal_numbers(compared, run, folder):
 
 def test_maker_notes(compared):
     """Without MakerNotes neither their bytes count nor what only they lead to."""
-    from test_never_the_same import reached
+    from test_pairs import reached
 
     for pair in reached():
         if pair.status != 0 and compared(a=pair.before, b=pair.after)[1].endswith("can reach differ"):
@@ -458,15 +464,167 @@ def test_least_fields(run, folder):
 # report
 
 
-def test_pictures_that_differ_in_what_no_field_shows_are_no_group(called, folder):
+def test_pictures_that_differ_in_what_no_field_shows_are_no_group(called, folder, indexed):
     """Two digests, and one listing: what differs isn't known, so nothing can be left out."""
-    put(folder, {f"p/{name}": jpeg(app1(exif(b"abc"))) for name in ("a", "b")})
-    called("index", "p", "--catalogue", "c", "--quiet")
+    indexed({f"{name}": jpeg(app1(exif(b"abc"))) for name in ("a", "b")})
     assert called("same", "c", "--ignore", "Artist")[1].splitlines()[-2] == "1 group of 2 pictures"
-    base = sqlite3.connect(folder / "c")
-    base.execute("UPDATE pictures SET exif = 'other' WHERE id = 1")
-    base.execute("UPDATE blocks SET digest = 'other' WHERE picture = 1")
-    base.commit()
-    base.close()
+    sql_rows(folder / "c", "UPDATE pictures SET exif = 'other' WHERE id = 1")
+    sql_rows(folder / "c", "UPDATE blocks SET digest = 'other' WHERE picture = 1")
     for words in ([], ["--ignore", "Artist"], ["--ignore", "Make"]):
         assert called("same", "c", *words)[1].splitlines()[0] == "0 groups of 0 pictures", words
+
+
+# ---- Names of fields in other programs: each that ExifTool and exiv2 have for a field of the standards is known, and finds it in pictures.
+
+RECORDS = {"EnvelopeRecord": 1, "ApplicationRecord": 2, "NewsPhoto": 3, "PreObjectData": 7, "ObjectData": 8, "PostObjectData": 9}
+# ExifTool's groups of XMP whose names aren't in the table: lists of a program's own settings, and flattened structures of them
+LEFT_OUT = "crd crs dwc Device ics swf cell x".split()
+PREFIXES = {"iptcCore": "Iptc4xmpCore", "iptcExt": "Iptc4xmpExt", "microsoft": "MicrosoftPhoto"}
+
+
+def listed(*groups):
+    """The tags that ExifTool lists: the table, the group, the identifier and the name of each."""
+    for group in groups:
+        printed = subprocess.run(["exiftool", "-config", "", "-listx", "-s", f"-{group}:all"], capture_output=True).stdout
+        for of_table in ET.fromstring(printed).iter("table"):
+            for tag in of_table.iter("tag"):
+                yield of_table.get("name"), tag.get("g1") or of_table.get("g1"), tag.get("id"), tag.get("name")
+
+
+def fields_of_exiftool():
+    """The fields of Exif, IPTC and XMP that ExifTool knows, each with the name that it prints."""
+    for of_table, group, key, name in listed("EXIF", "IPTC", "XMP"):
+        kind, _, rest = of_table.partition("::")
+        if of_table == "Exif::Main":
+            number = f"{int(key, 0):04x}"
+            yield from [("interop", number, name)] if int(key, 0) in (1, 2, 0x1000, 0x1001, 0x1002) else [
+                (where, number, name) for where in ("main", "exif")
+            ]
+        elif of_table == "GPS::Main":
+            yield "gps", f"{int(key, 0):04x}", name
+        elif kind == "IPTC" and key.isdigit():
+            yield "iptc", f"{RECORDS[rest]}:{key}", name
+        elif group.startswith("XMP-") and group[4:] not in LEFT_OUT:
+            yield "xmp", f"{PREFIXES.get(group[4:], group[4:])}:{key}", name
+
+
+@needs("exiftool")
+def test_each_name_of_exiftool_is_one_of_its_field():
+    missing = []
+    for where, key, name in fields_of_exiftool():
+        names, _, others = names_and_groups(where, key)
+        if not {name.casefold()} & (names | others):
+            missing.append((where, key, name))
+    assert not missing
+
+
+WRITTEN = """-IFD0:Artist=A -ExifIFD:FNumber=8 -ExifIFD:CreateDate=2019:03:12 -ExifIFD:ISO=200 -ExifIFD:ExifImageWidth=9 -GPSAltitude=3
+-IPTC:Caption-Abstract=C -IPTC:By-line=B -XMP-dc:Title=T -XMP-dc:Subject=S -XMP-iptcExt:DigitalSourceType=x -XMP-iptcCore:CreatorCity=K
+-XMP-iptcExt:LocationCreatedCity=L -XMP-plus:LicenseEndDate=2026:12:03 -XMP-exif:ExifImageWidth=7 -XMP-mwg-rs:RegionName=R"""
+
+
+@pytest.fixture
+def picture(folder):
+    put(folder, {"a.jpg": SMALL_JPEG})
+    tool(folder, "exiftool", "-q", "-overwrite_original", *WRITTEN.split(), "a.jpg")
+    return exifnorm.read(folder / "a.jpg")
+
+
+@needs("exiftool", "exiv2")
+def test_each_key_that_exiftool_and_exiv2_print_is_found(folder, picture):
+    keys = []
+    for group in ("-G1", "-G", "-a"):
+        words = ["exiftool", "-config", "", "-s", group, "-EXIF:all", "-IPTC:all", "-XMP:all", "a.jpg"]
+        lines = subprocess.run(words, cwd=folder, capture_output=True, check=True, text=True).stdout.splitlines()
+        keys += [re.sub(r"(?:\[(.*?)\]\s*)?(\S+)\s*:.*", lambda it: f"{it[1]}:{it[2]}" if it[1] else it[2], line) for line in lines]
+    printed = subprocess.run(["exiv2", "-PEIXk", "a.jpg"], cwd=folder, capture_output=True, check=True, text=True).stdout.split()
+    keys += [it for it in printed if not re.search(r"\[|/|Tag$|XMPToolkit", it)]  # no members, and no pointers to directories
+    assert len(keys) > 60
+    assert [it for it in keys if it not in picture and not it.endswith("XMPToolkit")] == []
+
+
+@needs("exiftool")
+def test_an_exact_name_comes_first(folder):
+    """A property of the namespace xmp is named as ExifTool names the group of all XMP."""
+    put(folder, {"a.jpg": SMALL_JPEG})
+    words = "-XMP-xmp:CreateDate=2001 -XMP-exif:DateTimeDigitized=2002 -XMP-dc:title=T"
+    tool(folder, "exiftool", "-q", "-overwrite_original", *words.split(), "a.jpg")
+    picture = exifnorm.read(folder / "a.jpg")
+    assert (picture["xmp:CreateDate"], picture["DateTimeDigitized"], picture["XMP:title"]) == ("2001", "2002", "T")
+
+
+def test_names_that_nobody_knows():
+    assert [is_possible(it) for it in ("Exif.Photo.FNumber", "Iptc.Application2.Caption", "Exif.Photo.Fnumbr", "XMP:Nonsense")] == [
+        True,
+        True,
+        False,
+        True,
+    ]
+
+
+# ---- The labels of `captions` as words of --only and --ignore: each stands for its fields over Exif, IPTC and XMP. ExifTool writes the fields.
+
+VALUES = {"date created": "2001:02:03 04:05:06", "position": "12.5", "rights end": "2001:02:03", "embargo": "2001:02:03"}
+BASE = jpeg(with_texts(artist=b"Anna"), with_record(data_set(15, b"one")))
+
+
+def test_each_label_has_its_row_and_its_documents(checks):
+    """A new label needs its fields in labelled_fields.py, and a place in the documents that list the labels."""
+    for label in fields_by_label():
+        checks.check(label, label in FIELDS, "it has no fields in labelled_fields.py")
+        pages = ("docs/exifnorm-pictures.1",) if label in (POSITION, *OF_FIELDS) else ("docs/CATALOGUE.md", "docs/exifnorm-pictures.1")
+        for page in pages:
+            checks.check(label, label in (Path(TOP) / page).read_text(encoding="utf-8"), f"{page} doesn't name it")
+
+
+@needs("exiftool")
+def test_each_field_of_a_label(folder, called):
+    """A field that is added counts with --only LABEL, and nothing counts with --ignore LABEL, whatever is added."""
+    names = {f"{label}-{at}.jpg": (label, field) for label, fields in FIELDS.items() for at, field in enumerate(fields)}
+    put(folder / "before", {it: BASE for it in names})
+    put(folder / "after", {it: BASE for it in names})
+    words = [f"-{field}={VALUES.get(label, 'Other')}\n{folder}/after/{name}\n-execute" for name, (label, field) in names.items()]
+    (folder / "words").write_text("\n".join(words), encoding="utf-8")
+    subprocess.run(["exiftool", "-q", "-@", "words", "-common_args", "-overwrite_original"], cwd=folder, check=True, capture_output=True)
+    for side in ("before", "after"):  # so that each picture is read once, and not for each label
+        called("index", side, "--catalogue", f"{side}.c", "--quiet", "--no-programs")
+    for label in filter(FIELDS.get, FIELDS):
+        ours = [name for name, (of, _) in names.items() if of == label]
+        (folder / "list").write_text("".join(f"{it}\n" for it in ours), encoding="utf-8")
+        status, printed, _ = called("changed", "before.c", "after.c", "--only", label, "--files-from", "list", "--no-programs")
+        assert status == 1 and printed.startswith(f"{len(ours)} picture") and ("all changed" in printed or "1 changed" in printed), printed
+        assert f"{label} stands for " in printed
+        ignored = ["--ignore", label.upper().replace(" ", "-"), "--ignore", "IPTC:EnvelopeRecordVersion", "--ignore", "XMP-x:*"]
+        printed = called("changed", "before.c", "after.c", *ignored, "--files-from", "list", "--no-programs", "--json")[1]
+        assert f'"{FIELDS[label][0]}' not in printed.split('"left_out"')[0], printed
+
+
+def test_a_label_wins_over_a_field(folder, called):
+    """`creator` is also the name of XMP-dc:creator, and `copyright` of IFD0:Copyright: the label has them and more."""
+    put(folder, {"a.jpg": jpeg(with_record(data_set(80, b"Anna"))), "b.jpg": jpeg(with_record(data_set(80, b"Otto")))})
+    for words, status in ((["--only", "creator"], 1), (["--ignore", "creator"], 0), (["--only", "XMP-dc:creator"], 0)):
+        assert called("compare", "a.jpg", "b.jpg", *words)[0] == status, words
+    assert "creator stands for IFD0:Artist, IPTC:By-line, XMP-dc:creator" in called("compare", "a.jpg", "b.jpg", "--only", "creator")[1]
+    assert "perhaps creator is meant" in called("compare", "a.jpg", "b.jpg", "--only", "creatoor")[2]
+
+
+@pytest.mark.parametrize("words, status", [([], 1), (["labels agree except title"], 1), (["headline agree"], 0)])
+def test_report(words, status, folder, called):
+    octets = jpeg(with_texts(artist=b"Anna"), with_record(data_set(80, b"Otto")))
+    put(folder, {"a.jpg": octets, "b.jpg": jpeg(app1(exif(b"abc")))})
+    (folder / "rules").write_text("\n".join(words), encoding="ascii")
+    found, printed, _ = called("check", "a.jpg", "b.jpg", *(["--rules", "rules"] if words else []))
+    assert (found, "creator 1" in printed) == (status, True)
+    assert ("left out though they contradict: creator 1" in printed) == (words == ["headline agree"])
+
+
+def test_what_is_no_label(folder, called):
+    for rule, said in (
+        ("labels agree except Artist", "is none of the labels that are compared: title, "),
+        ("labels agree except creatr", "perhaps creator is meant"),
+        ("creatr agree", "perhaps creator is meant"),
+        ("serial agree", "is none of the labels that are compared"),
+    ):
+        (folder / "rules").write_text(rule, encoding="ascii")
+        status, _, messages = called("check", ".", "--rules", "rules")
+        assert status == 3 and said in messages, rule

@@ -421,42 +421,42 @@ def test_a_catalogue_without_digests(folder, called_lines):
     assert called_lines("same", "c", "--kind", "pixels")[0] == 0
 
 
-@pytest.fixture
-def moved(changes):
-    """Runs `changed --pixels`: the status, and the result and the new path of each picture that isn't the same."""
+ABSENT = ("missing after", None)
+NEW = ("missing before", None)
+# What is in the folders b and a, and what became of each picture
+MOVES = {
+    "written again with the same metadata, and a comment": (
+        {"b/x.jpg": jpeg(app1(A)), "a/y.jpg": jpeg(segment(0xFE, b"comment"), app1(A))},
+        {"x.jpg": ("moved and edited", "y.jpg")},
+    ),
+    # with two pictures that it may be, a picture is missing, unless one of them has its name
+    "a copy isn't guessed": (
+        {"b/x.jpg": jpeg(app1(A)), "a/y.jpg": jpeg(app1(B)), "a/z.jpg": jpeg(app1(B))},
+        {"x.jpg": ABSENT, "y.jpg": NEW, "z.jpg": NEW},
+    ),
+    "one of the copies has its name": (
+        {"b/x.jpg": jpeg(app1(A)), **{f"a/{name}.jpg": jpeg(app1(B)) for name in ("y", "z", "new/x")}},
+        {"x.jpg": ("moved and edited", "new/x.jpg"), "y.jpg": NEW, "z.jpg": NEW},
+    ),
+    # which may have come from that one, as whatever has the same coded picture
+    "a copy of a picture that stays": (
+        {"b/x.jpg": jpeg(app1(A)), "b/y.jpg": jpeg(app1(B)), "a/y.jpg": jpeg(app1(B)), "a/z.jpg": jpeg(app1(B))},
+        {"x.jpg": ABSENT, "z.jpg": NEW},
+    ),
+    # compared there, even if its coded picture is elsewhere now
+    "a picture under its own name": (
+        {"b/x.jpg": jpeg(app1(A)), "a/x.jpg": jpeg(app1(A), base=OTHER), "a/y.jpg": jpeg(app1(B))},
+        {"x.jpg": ("other picture, the same metadata", None), "y.jpg": NEW},
+    ),
+}
 
-    def call():
-        status, found = changes("b", "a", "--pixels")
-        return status, {path: (it["result"], (it["moved_to"] or {}).get("path")) for path, it in found.items()}
 
-    return call
-
-
-class TestChanged:
-    def test_written_again_with_the_same_metadata(self, folder, moved):
-        put(folder, {"b/x.jpg": jpeg(app1(A)), "a/y.jpg": jpeg(segment(0xFE, b"comment"), app1(A))})
-        assert moved()[1] == {"x.jpg": ("moved and edited", "y.jpg")}, "the comment came"
-
-    def test_a_copy_is_not_guessed(self, folder, moved):
-        """With two pictures that it may be, a picture is missing; unless one of them has its name."""
-        put(folder, {"b/x.jpg": jpeg(app1(A)), "a/y.jpg": jpeg(app1(B)), "a/z.jpg": jpeg(app1(B))})
-        assert moved()[1] == {
-            "x.jpg": ("missing after", None),
-            "y.jpg": ("missing before", None),
-            "z.jpg": ("missing before", None),
-        }
-        put(folder, {"a/new/x.jpg": jpeg(app1(B))})
-        assert moved()[1]["x.jpg"] == ("moved and edited", "new/x.jpg")
-
-    def test_a_copy_of_a_picture_that_stays(self, folder, moved):
-        """It may have come from that one, as whatever has the same coded picture."""
-        put(folder, {"b/x.jpg": jpeg(app1(A)), "b/y.jpg": jpeg(app1(B)), "a/y.jpg": jpeg(app1(B)), "a/z.jpg": jpeg(app1(B))})
-        assert moved()[1] == {"x.jpg": ("missing after", None), "z.jpg": ("missing before", None)}
-
-    def test_names_come_first(self, folder, moved):
-        """A picture under its own name is compared there, even if its coded picture is elsewhere now."""
-        put(folder, {"b/x.jpg": jpeg(app1(A)), "a/x.jpg": jpeg(app1(A), base=OTHER), "a/y.jpg": jpeg(app1(B))})
-        assert moved()[1] == {"x.jpg": ("other picture, the same metadata", None), "y.jpg": ("missing before", None)}
+@pytest.mark.parametrize("name", MOVES)
+def test_what_became_of_a_picture(name, folder, changes):
+    files, expected = MOVES[name]
+    put(folder, files)
+    found = changes("b", "a", "--pixels")[1]
+    assert {path: (it["result"], (it["moved_to"] or {}).get("path")) for path, it in found.items()} == expected
 
 
 def test_same_beside_what_was_indexed_without(folder, called_lines):

@@ -12,20 +12,19 @@ from collections import Counter
 
 import pytest
 from hypothesis import example, given, strategies as st
-from made_blocks import ASCII, BLOCKS, LONG, SHORT, block, entry, segment, table, with_exif
+from made_blocks import ASCII, LONG, SHORT, block, entry, segment, table
 from made_files import app1, app1_xmp, app13, chunk, exif, iim, jpeg, png, resource, title, xmp
 from studio import SMALL_JPEG, needs
 from test_jpeg_heads import COMPARED
 from test_list import record
-from test_never_the_same import damages, parts, reached, segments, texts
+from test_pairs import damages, parts, reached, segments, texts
 
-from exifnorm_pictures.comparison import origin
 from exifnorm_pictures.comparison.two_pictures import compare, read
 from exifnorm_pictures.comparison.wording import told_apart
 from exifnorm_pictures.files import opening
 from exifnorm_pictures.files.session import Session
 from exifnorm_pictures.model.found import EXIF, IPTC
-from exifnorm_pictures.scan.batches import How
+from exifnorm_pictures.scan.walk import How
 
 RATIONAL = 5
 
@@ -96,13 +95,6 @@ def test_the_proved_comparison_says_the_same(with_xmp, folder):
     assert min(met[it] for it in ("same", "different", "not wholly read", None)) > 5, met
 
 
-@pytest.mark.parametrize("mark", [b"Exif\0\1", b"exif\0\0", b"1234Exif\0\0"], ids=repr)
-def test_exif_under_a_mark_that_the_proved_comparison_does_not_read(mark, run):
-    """It is the same for this package, and the proved comparison says that it hasn't read all."""
-    status, found = compared(run, jpeg(app1(exif(b"abc"))), jpeg(segment(0xE1, mark + exif(b"abc"))))
-    assert (status, found["kinds"]["exif"], found["proved"]) == (0, "same", "not wholly read")
-
-
 BEHIND_DAMAGE = b"\1" + resource(0x0424, title("Vase"))
 UNREAD = {
     "bytes behind the Photoshop resources in the APP13 segment at 2": app13(resource(0x03ED, bytes(16)) + BEHIND_DAMAGE),
@@ -142,15 +134,13 @@ def test_a_picture_that_is_saved_while_it_is_compared(save, when, folder, monkey
         return opened(place)
 
     first, head = read(os.fsencode(folder / "a.jpg"), How(1, pixels=True), Session())
-    for module in (opening, origin):
-        monkeypatch.setattr(module, "opened", saved_before)
+    monkeypatch.setattr(opening, "opened", saved_before)
     second, other = read(os.fsencode(folder / "b.jpg"), How(1, pixels=True), Session())
     found = compare(first, second, None, heads=(head, other))
     is_same = next(it.result for it in found.compared.verdicts if it.kind == EXIF) == "same"
     assert found.proved.blocks in (None, "same" if is_same else "different")
 
 
-REFUSED = [with_exif(SMALL_JPEG, BLOCKS[cause]) for cause in ("Unsorted", "Doubled", "Overlap", "UnknownType")]
 PLAIN = jpeg(app1(exif(b"abc")))
 
 

@@ -7,9 +7,9 @@ import re
 import struct
 
 import pytest
-from made_files import app1, app1_xmp, jpeg, xmp
+from made_files import app1, app1_xmp, data_set, jpeg, with_record, with_texts, xmp
 from studio import SMALL_JPEG, needs, tool
-from test_captions import CREATOR, LONG_NAME, data_set, with_record, with_texts
+from test_captions import CREATOR, LONG_NAME
 
 CAPTION = "Ein Gefäß aus Köln. " * 150
 PLACE = ["-GPSLatitude=51.5074123", "-GPSLatitudeRef=N", "-GPSLongitude=0.1277583", "-GPSLongitudeRef=W"]
@@ -52,6 +52,10 @@ ROWS = {
     ),
     "a keyword more": (["-IPTC:Keywords=a1", "-XMP-dc:Subject=a1", "-XMP-dc:Subject=b2"], {"keywords": "different"}),
     "a camera's text": (["-IFD0:ImageDescription=OLYMPUS DIGITAL CAMERA", "-XMP-dc:Description=Vase"], {"caption": "camera's text"}),
+    "the same camera's text twice": (
+        ["-IFD0:ImageDescription=OLYMPUS DIGITAL CAMERA", "-XMP-dc:Description=OLYMPUS DIGITAL CAMERA"],
+        {"caption": "camera's text"},
+    ),
     "ends of lines": (["-IFD0:ImageDescription=a\r\nb", "-XMP-dc:Description=a\nb"], {}),
     "a blank artist": (["-IFD0:Artist=   ", "-XMP-dc:Creator=Anna"], {"creator": "empty"}),
     "accents composed otherwise": (["-IFD0:ImageDescription=Ko\u0308ln", "-XMP-dc:Description=Köln"], {}),

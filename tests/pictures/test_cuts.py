@@ -39,6 +39,7 @@ from studio import needs, put
 from test_bigtiff import big
 
 from exifnorm_pictures.model.texts import Result
+from exifnorm_pictures.cli import main
 
 IPTC_UUID = bytes.fromhex("33c7a4d2b81d4723a0baf1a3e097ad38")
 COMMENT = segment(0xFE, b"a comment of some length")
@@ -132,8 +133,6 @@ def pairwise(lines):
 @pytest.fixture(scope="module")
 def archives(session_folder):
     """Two folders with the whole files and the cut ones, and catalogues of them without digests of pictures."""
-    from exifnorm_pictures.cli import main
-
     top = session_folder / "cuts"
     for side in ("before", "after"):
         (top / side).mkdir(parents=True)

@@ -1,19 +1,16 @@
-"""The examples of the manual pages of the commands, with what they print, and those in the modules. The page of refusals is that of the
-program's own texts, and the manual page has each option."""
+"""The examples of the manual pages of the commands, with what they print. The page of refusals is that of the program's own texts, and the manual
+page has each option."""
 
-import doctest
 import hashlib
-import importlib
 import os
-import pkgutil
 import re
 import shutil
 import subprocess
 
-import exifnorm_pictures
 from exifnorm_pictures.cli import parser, topics
 from made_files import app1, exif, jpeg, turned
 from studio import SMALL_JPEG, Studio, TOP, WithPictures, needs, put, read, run, tool, write
+from exifnorm_pictures.extract.formats.jpeg_segments import COM, RESTS
 
 
 class Documents(WithPictures):
@@ -28,8 +25,6 @@ class Documents(WithPictures):
 
     def test_what_is_not_compared(self):
         """The page lists the segments of a JPEG that the reader leaves out, and no other ones."""
-        from exifnorm_pictures.extract.formats.jpeg_segments import COM, RESTS
-
         page = read(os.path.join(TOP, "docs", "COMPARED.md")).decode()
         words = [f"{name} ({'COM' if marker == COM else f'APP{marker & 15}'})" for marker, _, name in RESTS]
         self.assertIn(f"these segments of a JPEG: {', '.join(words)}.\n", page)
@@ -42,13 +37,6 @@ class Documents(WithPictures):
             self.assertRegex(of_command.format_help(), rf"Example:\n  exifnorm-pictures {name} ")
             self.assertRegex(pages["exifnorm-pictures.1"], rf'\n\.BI "{name} ')
             self.assertRegex(blocks, rf"\bexifnorm-pictures {name} ")
-
-    def test_examples_in_the_modules(self):
-        for it in pkgutil.walk_packages(exifnorm_pictures.__path__, "exifnorm_pictures."):
-            if not it.name.endswith("__main__"):
-                module = importlib.import_module(it.name)
-                failed, _ = doctest.testmod(module, verbose=False)
-                self.assertEqual((failed, [word for word in getattr(module, "__all__", ()) if not hasattr(module, word)]), (0, []), it.name)
 
     @needs("exiftool")
     def test_the_examples_of_the_manual_page(self):

@@ -13,6 +13,7 @@ import pytest
 from museum import run, standing_clock
 from studio import TESTS_PATH, TOP, needs
 from test_options_together import LINES, fresh, make, written
+from exifnorm_pictures.scan import looking
 
 MORE = (
     "changed old c --csv",
@@ -75,8 +76,6 @@ def shuffle_folders(chance):
 
 
 def main():
-    from exifnorm_pictures.scan import looking
-
     looking.FINE = 0
     folder, zone, chance = sys.argv[1:]
     json.dump(list(outcomes(Path(folder), zone, int(chance))), sys.stdout)

@@ -10,14 +10,13 @@ from pathlib import Path
 
 import pytest
 from hypothesis import given, settings, strategies as st
-from made_files import app1, app1_xmp, exif, jpeg, xmp
+from made_files import app1, app1_xmp, data_set, exif, jpeg, with_record, with_texts, xmp
 from made_more_files import gif
-from studio import SMALL_JPEG, TOP, needs, put, tool
-from test_captions import data_set, with_record, with_texts
+from studio import SMALL_JPEG, TOP, needs, put, sql_rows, tool
 from test_groups import FILES as TWINS
 from test_maker_notes import noted
 
-from exifnorm_pictures.export.rows import _EMPTY_IS_NULL, FieldRows, Tables
+from exifnorm_pictures.export.rows import FieldRows, Tables
 from exifnorm_pictures.fields.field import Field
 from exifnorm_pictures.fields.packing import packed, unpacked
 from exifnorm_pictures.model.columns import Damaged
@@ -74,6 +73,16 @@ def test_small_angles_have_the_form_of_others(run, folder):
     for words, text in texts.items():
         (place,) = re.findall(r"(-?[0-9.]+), (-?[0-9.]+)$", text, re.M)
         assert tuple(map(float, place)) == (north, east), words
+    run("catalogue", "export", "c", "t")
+    (place,) = asked(sqlite3.connect("t"), "SELECT latitude, longitude FROM pictures")
+    assert place == pytest.approx((north, east), rel=1e-3)
+
+
+def test_parts_that_are_not_read(exported, run, folder):
+    put(folder, {"p/a.jpg": SMALL_JPEG + b"more", "p/b.jpg": SMALL_JPEG})
+    rows = asked(exported("p"), "SELECT path, part FROM not_read JOIN pictures ON id = picture ORDER BY position")
+    parts = json.loads(run("show", "p/a.jpg", "--json", status=2))["not_read"]
+    assert rows == [(str(folder / "p" / "a.jpg"), it) for it in parts] != []
 
 
 def test_files(exported, folder):
@@ -299,9 +308,7 @@ def test_a_failure_leaves_the_earlier_export(exported, run, folder, monkeypatch)
     Path("a.jpg").write_bytes(jpeg(app1(exif(b"abc"))))
     exported("a.jpg").close()
     before = Path("t").read_bytes()
-    with sqlite3.connect("c") as base:
-        base.execute("UPDATE blocks SET fields = 1")
-    base.close()
+    sql_rows("c", "UPDATE blocks SET fields = 1")
     assert "damaged" in run("catalogue", "export", "c", "t", status=4)
     assert Path("t").read_bytes() == before
     assert sorted(it.name for it in folder.iterdir()) == ["a.jpg", "c", "t"]
@@ -322,11 +329,15 @@ def test_texts_of_a_damaged_catalogue(exported, run):
     """Halves of characters, which XMP of a damaged catalogue may have."""
     Path("a.jpg").write_bytes(jpeg(app1(exif(b"abc"))))
     exported("a.jpg").close()
-    with sqlite3.connect("c") as base:
-        base.execute("UPDATE blocks SET fields = CAST(? AS BLOB)", (r'[["xmp","dc:source","text",1,["\ud800"]]]',))
-    base.close()
+    sql_rows("c", "UPDATE blocks SET fields = CAST(? AS BLOB)", r'[["xmp","dc:source","text",1,["\ud800"]]]')
     run("catalogue", "export", "c", "t")
     assert asked(sqlite3.connect("t"), "SELECT value FROM fields") == [(r"\ud800",)]
+
+
+MISSING = """
+pictures.path_bytes pictures.problem pictures.detail pictures.exif pictures.iptc pictures.xmp pictures.coded_picture pictures.sha256
+pictures.damage pictures.latitude pictures.longitude blocks.cause blocks.repair fields.number captions.block captions.guess conflicts.detail
+"""
 
 
 def test_what_is_missing_is_null(exported, folder):
@@ -340,7 +351,7 @@ def test_what_is_missing_is_null(exported, folder):
                 empty, null = asked(base, f"SELECT ifnull(sum({column} = ''), 0), ifnull(sum({column} IS NULL), 0) FROM {table}")[0]
                 assert empty == 0, (table, column)
                 missing |= {f"{table}.{column}"} if null else set()
-    assert missing >= {f"{table}.{column}" for table, columns in _EMPTY_IS_NULL.items() for column in columns}, missing
+    assert missing >= set(MISSING.split()), missing
     (row,) = FieldRows().of_block(packed([Field("main", "0112", "SHORT", 1, (0,))]).octets)
     assert row.cells[-1] == 0
 

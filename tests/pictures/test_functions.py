@@ -1,33 +1,64 @@
-"""Single functions at their limits, which no picture of the other tests reaches: what is called, and what it returns."""
+"""Single functions at their limits, which no picture of the other tests reaches: what is called, and what it returns; and the examples in all
+modules."""
 
 import contextlib
+import doctest
 import hashlib
+import importlib
 import io
+import pkgutil
+import os
 import re
+import shutil
+import sqlite3
 import subprocess
+import sys
+import tempfile
+import unittest
 from types import SimpleNamespace
 from unittest import mock
 
 import pytest
 from exact_fields import field
-from made_files import xmp as packet_of
-from studio import name_of
+from hypothesis import given, strategies, strategies as st
+from made_blocks import segment
+from made_files import exif, jpeg, xmp as packet_of
+from studio import TOP, WithPictures, name_of, needs, put, read, run, tool, write
 
+import exifnorm_pictures
 from exifnorm_pictures import xmp
-from exifnorm_pictures.cli import names, output, parser
-from exifnorm_pictures.cli.commands import nightly, report
+from exifnorm_pictures.catalogue.store import BLOCK_COLUMNS, PICTURE_COLUMNS, Catalogue, NoCatalogue
+from exifnorm_pictures.cli import main, names, output, parser
+from exifnorm_pictures.cli.commands import nightly, report, same
 from exifnorm_pictures.cli.options import Files
 from exifnorm_pictures.comparison import wording
 from exifnorm_pictures.extract import exiftool, programs
-from exifnorm_pictures.fields import listing, plain_texts, xmp_properties
+from exifnorm_pictures.extract.formats import jpeg as jpeg_
+from exifnorm_pictures.fields import listing, names as field_names, plain_texts, xmp_properties
 from exifnorm_pictures.fields.field import Field
+from exifnorm_pictures.files import session, signals
 from exifnorm_pictures.files.session import Session
-from exifnorm_pictures.model import records, texts, verdicts
-from exifnorm_pictures.model.found import NotRead
-from exifnorm_pictures.model.records import BlockRecord, PictureRecord, Side, Stamp
+from exifnorm_pictures.judge import judge
+from exifnorm_pictures.model import found as found_, records, texts, verdicts, xmp_names as short_names
+from exifnorm_pictures.model.columns import Damaged
+from exifnorm_pictures.model.found import EXIF, NotRead
+from exifnorm_pictures.model.numbers import Numbers
+from exifnorm_pictures.model.problems import TEXTS
+from exifnorm_pictures.model.records import BlockRecord, PictureRecord, Side, Stamp, block_of_row
 from exifnorm_pictures.model.verdicts import Verdict
 from exifnorm_pictures.refusals import mend
-from exifnorm_pictures.scan import moved, walk
+from exifnorm_pictures.scan import index, moved, walk, workers
+from exifnorm_pictures.scan.walk import FoundFile
+
+
+MODULES = [it.name for it in pkgutil.walk_packages(exifnorm_pictures.__path__, "exifnorm_pictures.") if not it.name.endswith("__main__")]
+
+
+@pytest.mark.parametrize("name", MODULES)
+def test_examples_in_a_module(name):
+    module = importlib.import_module(name)
+    assert doctest.testmod(module).failed == 0
+    assert [word for word in getattr(module, "__all__", ()) if not hasattr(module, word)] == []
 
 
 def digits(octets, count=32):
@@ -191,7 +222,6 @@ KNOWN, OTHER_PART, UNKNOWN = NotRead("b", "1"), NotRead("a", "2"), NotRead("c", 
 BOTH = [block("Exif"), block("second Exif", text="e", octets="p")]
 OCTETS_OF_BOTH = hashlib.sha256(b"Exif: o\nsecond Exif: p").hexdigest()
 LEAST, GREATEST = -(1 << 63), (1 << 63) - 1
-OWN = PictureRecord.of(b"/a", b"/", extractor="own")
 # a group of one picture
 ODD = SimpleNamespace(is_odd=True, names=[b"x.jpg"], words=lambda is_whole=True: ["title: [-one-]{+two+}"])
 LONG = SimpleNamespace(is_odd=True, names=[b"x.jpg"], words=lambda is_whole=True: [f"title: {'a' * 60 * is_whole}[-one-]{{+two+}}"])
@@ -298,7 +328,7 @@ def refused_words(*words):
     return last.partition(": ")[2]
 
 
-def given(text, *wanted):
+def words_given(text, *wanted):
     found = vars(parser.parsed(text.split()))
     assert found["command"] == name_of(text)
     return [found[it] for it in wanted]
@@ -345,13 +375,13 @@ ARGUMENTS = [
             ("help rhymes", "there is no command rhymes; --help lists them"),
         )
     ),
-    (given, ("changed a b", "limit", "jobs"), [60.0, 0]),
-    (given, ("changed a b --limit 0.5 --jobs 3", "limit", "jobs"), [0.5, 3]),
-    (given, ("mend a b --limit 999999", "limit"), [999999.0]),
+    (words_given, ("changed a b", "limit", "jobs"), [60.0, 0]),
+    (words_given, ("changed a b --limit 0.5 --jobs 3", "limit", "jobs"), [0.5, 3]),
+    (words_given, ("mend a b --limit 999999", "limit"), [999999.0]),
     # words that are no option: the beginning of one, the value of one, and what follows --
-    (given, ("list c --col title", "columns"), ["title"]),
-    (given, ("list c --where=--x", "where"), [["--x"]]),
-    (given, ("show -- --x", "names"), [["--x"]]),
+    (words_given, ("list c --col title", "columns"), ["title"]),
+    (words_given, ("list c --where=--x", "where"), [["--x"]]),
+    (words_given, ("show -- --x", "names"), [["--x"]]),
     # an option between names
     (names_given, ("show a --json b",), ["a", "b"]),
     (names_given, ("show a --limit 3 b --json c",), ["a", "b", "c"]),
@@ -566,3 +596,587 @@ def test_an_option_that_went_names_one_that_the_named_commands_have(name, words)
     named = [it for it in commands if it in re.findall(r"\w+", words)] or ["changed"]
     for option in re.findall(r"--[\w-]+", words):
         assert all(option in commands[it]._option_string_actions for it in named), option
+
+
+# ---- Single functions of exifnorm_pictures: at limits, orders and names that no picture of the other tests reaches.
+
+# Names of the standards that ExifTool doesn't use: by TIFF 6.0, CIPA DC-008 and IPTC-NAA IIM 4.2.
+STANDARD = {
+    "main": "00fe NewSubfileType 00ff SubfileType 0101 ImageLength 0107 Threshholding 0132 DateTime 014a SubIFDs 0201 JPEGInterchangeFormat "
+    "0202 JPEGInterchangeFormatLength 02bc XMP 83bb IPTC 8649 PhotoshopResources 8769 ExifIFDPointer 8773 ICCProfile "
+    "8825 GPSInfoIFDPointer c4a5 PrintImageMatching",
+    "exif": "8827 PhotographicSensitivity 8828 OECF 9004 DateTimeDigitized 9204 ExposureBiasValue 927c MakerNote 9400 Temperature "
+    "a002 PixelXDimension a003 PixelYDimension a005 InteroperabilityIFDPointer a405 FocalLengthIn35mmFilm a430 CameraOwnerName "
+    "a431 BodySerialNumber a432 LensSpecification a436 ImageTitle a437 Photographer a438 ImageEditor a439 CameraFirmware "
+    "a43a RAWDevelopingSoftware a43b ImageEditingSoftware a43c MetadataEditingSoftware a461 SourceImageNumberOfCompositeImage "
+    "a462 SourceExposureTimesOfCompositeImage",
+    "gps": "",
+    "interop": "0001 InteroperabilityIndex 0002 InteroperabilityVersion 1002 RelatedImageLength",
+    "iptc": "1:0 ModelVersion 1:22 FileFormatVersion 1:100 UNO 2:0 RecordVersion 2:20 SupplementalCategory 2:200 ObjectDataPreviewFileFormat "
+    "2:201 ObjectDataPreviewFileFormatVersion 2:202 ObjectDataPreviewData",
+}
+# The field_names of ExifTool's tables with these tags, and what is before the number of a tag there.
+GROUPS = {
+    "Exif::Main": ("main", "exif", "interop"),
+    "GPS::Main": ("gps",),
+    "IPTC::EnvelopeRecord": ("1",),
+    "IPTC::ApplicationRecord": ("2",),
+}
+# A tag of each namespace that ExifTool writes; and those that it doesn't write, by XMP part 1 (8) and 3 (1.1.3.1), and by exiv2's table.
+IN_SPACES = """dc:Title xmp:Label xmpRights:Marked=true xmpMM:DocumentID xmpBJ:JobRefName xmpTPg:NPages=1 xmpMM:DerivedFromDocumentID xmpMM:HistoryAction
+xmpTPg:MaxPageSizeW=1 xmpMM:VersionsVersion mwg-rs:RegionAreaX=1 xmpDM:Album pdf:Keywords photoshop:City crs:Version lr:HierarchicalSubject
+exif:UserComment aux:Lens tiff:Make exifEX:LensMake iptcCore:Location iptcExt:Event plus:ImageCreatorName mwg-kw:HierarchicalKeywords1
+digiKam:TagsList GPano:StitchingSoftware GCamera:BurstID""".split()
+OTHER_SPACES = {
+    "xmpG": "http://ns.adobe.com/xap/1.0/g/",
+    "xmpGImg": "http://ns.adobe.com/xap/1.0/g/img/",
+    "xmpNote": "http://ns.adobe.com/xmp/note/",
+    "xmpidq": "http://ns.adobe.com/xmp/Identifier/qual/1.0/",
+    "MicrosoftPhoto": "http://ns.microsoft.com/photo/1.0/",
+}
+
+
+class Prefixes(WithPictures):
+    @needs("exiftool")
+    def test_each_prefix_is_exiftools_or_the_standards(self):
+        words = [f"-XMP-{it}" if "=" in it else f"-XMP-{it}=a" for it in IN_SPACES]
+        tool(self.folder, "exiftool", "-config", "", "-q", "-q", "-m", *words, "a.xmp")
+        written = dict(re.findall(r"xmlns:([\w-]+)='([^']+)'", read(self.path("a.xmp")).decode()))
+        self.assertEqual(written.pop("x"), "adobe:ns:meta/")
+        self.assertEqual({prefix: uri for uri, prefix in short_names._SPACES.items()}, {**written, **OTHER_SPACES})
+
+
+class Names(unittest.TestCase):
+    @needs("exiftool")
+    def test_each_name_is_exiftools_or_the_standards(self):
+        known = {}
+        for group in ("EXIF", "GPS", "IPTC"):
+            listed = tool(TOP, "exiftool", "-listx", f"-{group}:All").decode()
+            for table, body in re.findall(r"<table name='([^']+)'.*?>(.*?)</table>", listed, re.S):
+                for number, name in re.findall(r"<tag id='(\d+)' name='([^']+)'", body):
+                    for where in GROUPS.get(table, ()):
+                        key = ("iptc", f"{where}:{number}") if where.isdigit() else (where, f"{int(number):04x}")
+                        known.setdefault(key, set()).add(name.replace("-", "").lower())
+        for where, own in (
+            ("main", field_names._TIFF),
+            ("exif", field_names._EXIF),
+            ("gps", field_names._GPS),
+            ("interop", field_names._INTEROP),
+            ("iptc", field_names._IIM),
+        ):
+            words = STANDARD[where].split()
+            standard = dict(zip(words[0::2], words[1::2]))
+            for key, name in own.items():
+                if key in standard:
+                    self.assertEqual(name, standard.pop(key), (where, key))
+                else:
+                    self.assertIn(name.replace("-", "").lower(), known.get((where, key), ()), (where, key))
+            self.assertEqual(standard, {}, where)
+
+
+class Indexed(WithPictures):
+    def test_files_of_the_catalogue(self):
+        """SQLite's documentation of temporary files field_names these three endings."""
+        os.symlink(self.folder, self.path("link"))
+        for name in (self.path("c"), self.path("link", "c")):
+            expected = {os.fsencode(self.path("c") + it) for it in ("", "-wal", "-shm", "-journal")}
+            self.assertLessEqual(expected, set(index._own_files(name)))
+
+    def test_names_at_the_ends_of_the_alphabet(self):
+        """Each of them is below its folder, and no name of the folders beside it."""
+        field_names = [b"\x01", b" ", b"~", b"\x7f", "é".encode(), b"\xff", b"z/\xff"]
+        with Catalogue(self.path("c"), make=True) as made:
+            run = made.begin_run("2000-01-01T00:00:00Z")
+            made.put(run, [PictureRecord.of(b"/a/" + it, b"/a", problem="NoPicture") for it in field_names])
+            made.put(
+                run, [PictureRecord.of(it, b"/", problem="NoPicture") for it in (b"/a", b"/a0", b"/a!/b", b"/a0/b", b"/ab/c", b"/\xff")]
+            )
+            self.assertEqual([path for _, path, _ in made.below(b"/a")], sorted(b"/a/" + it for it in field_names))
+
+    def test_slow_pictures_are_committed_one_by_one(self):
+        put(self.folder, {f"p/{name}": b"" for name in ("a", "b", "c")})
+        with Catalogue(self.path("c"), make=True) as made:
+
+            def looked(found, _):
+                for number, it in enumerate(found):
+                    self.assertEqual(made.base.execute("SELECT count(*) FROM pictures").fetchone(), (number,))
+                    yield PictureRecord.of(it.path, it.root, it.stamp, problem="NoPicture")
+
+            with mock.patch.object(index, "LONGEST_WAIT", -1):
+                index.index(index.IndexOptions([os.fsencode(self.path("p"))], quiet=True, look=looked), made)
+
+
+class Extracted(WithPictures):
+    def test_a_form_that_is_too_long(self):
+        with mock.patch.object(judge.exifnorm, "normal", mock.Mock(side_effect=judge.exifnorm.NormalTooLong)):
+            found = judge.judge("exif", b"abc")
+        self.assertEqual((found.status, found.digest, found.cause, found.place, found.length), ("too long", None, "NormalTooLong", None, 3))
+
+    def test_an_output_without_end(self):
+        with mock.patch.object(programs, "OUTPUT", 100_000):
+            with self.assertRaisesRegex(programs.Failed, "^yes wrote more than 100,000 bytes about one file$"):
+                programs.run([shutil.which("yes")], 10.0)
+        with mock.patch.object(programs, "OUTPUT", 100):
+            self.assertEqual(programs.run(["head", "-c", "100", "/dev/zero"], 10.0).stdout, bytes(100))
+            with self.assertRaisesRegex(programs.Failed, "^head wrote more than 100 bytes about one file$"):
+                programs.run(["head", "-c", "101", "/dev/zero"], 10.0)
+
+
+class Parts(unittest.TestCase):
+    def test_what_was_not_read(self):
+        """Its digest is that of the field_names and of the bytes, in the order of the file; without the bytes there is none."""
+        parts = [NotRead("a trailer", "1" * 64), NotRead("a chunk", "2" * 64)]
+        others_ = [parts[::-1], parts[:1], [parts[0], NotRead("a chunk", "3" * 64)], [parts[0], NotRead("a trailer", "2" * 64)], []]
+        found = [PictureRecord.of(b"/a", b"/", unread=it).not_read for it in (parts, *others_)]
+        self.assertEqual((len(set(found)), found[-1]), (6, ""))
+        self.assertEqual(PictureRecord.of(b"/a", b"/", unread=parts).not_read, found[0])
+        self.assertIsNone(PictureRecord.of(b"/a", b"/", unread=(parts[0], NotRead("a chunk", ""))).not_read)
+
+
+class Ended(unittest.TestCase):
+    def test_each_failure_has_its_line_and_status(self):
+        for why, status, line in (
+            (MemoryError(), 4, "out of memory"),
+            (KeyboardInterrupt(), 130, "stopped"),
+            (walk.BadList("a list"), 3, "a list"),
+            (NoCatalogue("a catalogue"), 4, "a catalogue"),
+            (programs.Failed("a program"), 4, "a program"),
+            (OSError(28, "No space left on device", "a"), 4, "a: no space left on device"),
+            (PermissionError(13, "Permission denied", b"/a\xff"), 4, "/a\\xff: permission denied"),
+            (sqlite3.OperationalError("disk I/O error"), 4, "disk I/O error"),
+        ):
+            lines = []
+            with mock.patch.object(same, "run", side_effect=why), mock.patch.object(main.signals, "say", lines.append):
+                self.assertEqual((main._run(["same", "c"]), lines), (status, [f"exifnorm-pictures: {line}"]))
+
+
+# ---- Single values: those of another type in a catalogue, byte offsets and folders at an end, and each byte that may be before a block.
+
+# The columns of each table that are read, and a value of another type in SQL for each type of a column, as SQLite keeps it there.
+COLUMNS = {"pictures": PICTURE_COLUMNS, "blocks": BLOCK_COLUMNS, "not_read": "what, digest"}
+WRONG = {"BLOB": ("'a'", "7"), "TEXT": ("x'00'",), "INTEGER": ("'a'", "x'00'", "1.5")}
+MEANT = {"'a'": "a", "7": 7, "x'00'": b"\0", "1.5": 1.5}
+
+
+class RowsOfCatalogues(WithPictures):
+    def catalogue(self, *names, name="c"):
+        made = Catalogue(self.path(name), make=True)
+        self.addCleanup(made.close)
+        block = BlockRecord(EXIF, "Exif", "somewhere", "own", "refused", None, "Overlap", 34, 100, "0" * 64)
+        made.put(
+            made.begin_run("2000-01-01T00:00:00Z"),
+            [PictureRecord.of(it, b"/", Stamp(1, 2, 3, 4), "JPEG", blocks=(block,), unread=(NotRead("a part", "1" * 64),)) for it in names],
+        )
+        return made
+
+    def test_values_of_another_type(self):
+        """In each column: the catalogue is damaged, and the message has the value."""
+        made = self.catalogue(b"/p")
+
+        def read():
+            for it in made.pictures():
+                made.not_read_of(it)
+            return list(made.rows(f"SELECT {BLOCK_COLUMNS} FROM blocks", (), block_of_row))
+
+        self.assertEqual([it.refusal for it in read()], ["Overlap at 34"])
+        types = {(table, row[1]): row[2] for table in COLUMNS for row in made.base.execute(f"PRAGMA table_info({table})")}
+        wrong = [
+            (table, column, value)
+            for table, columns in COLUMNS.items()
+            for column in columns.split(", ")
+            if column != "id"
+            for value in WRONG[types[table, column]]
+        ]
+        for table, column, value in wrong:
+            made.base.execute("BEGIN")
+            made.base.execute(f"UPDATE {table} SET {column} = {value}")
+            with self.assertRaises(NoCatalogue, msg=(table, column, value)) as raised:
+                read()
+            self.assertIsInstance(raised.exception.__cause__, Damaged)
+            self.assertIn(repr(MEANT[value]), str(raised.exception), (table, column))
+            made.base.execute("ROLLBACK")
+        self.assertEqual([it.refusal for it in read()], ["Overlap at 34"])
+
+    def test_what_is_below_the_root(self):
+        """Each path but the root itself, also if a folder is given with a slash at its end."""
+        paths = [b"/\x01", b"/a", b"/a/b", b"/a/b/c", b"/a0", b"/\xff"]
+        made = self.catalogue(*paths)
+        for folder, expected in ((b"/", paths), (b"//", paths), (b"/a", [b"/a/b", b"/a/b/c"]), (b"/a/", [b"/a/b", b"/a/b/c"])):
+            self.assertEqual([path for _, path, _ in made.below(folder)], expected, folder)
+
+
+class SingleBlocks(unittest.TestCase):
+    def test_extensions_of_packets(self):
+        """The first one of a name is read with its packet, which has the MD5 of its bytes; each further one in other bytes is reported."""
+        more, plain = packet_of("<dc:title>two</dc:title>"), packet_of("<dc:format>one</dc:format>")
+        name = hashlib.md5(more).hexdigest().upper()
+        asking = packet_of("<dc:format>one</dc:format>", f"note:HasExtendedXMP='{name}'")
+        read, damaged, missing = (
+            ("XMP", "accepted", None),
+            *(("XMP", "unreadable", it) for it in ("ExtensionDamaged", "ExtensionMissing")),
+        )
+        first, second = (f"{it}extended XMP" for it in ("", "second "))
+        for packet, pieces, expected in (
+            (asking, [more], [read]),
+            (asking, [more, more], [read]),
+            (asking, [more, b"other"], [read, (second, "unreadable", "ExtensionNotNamed")]),
+            (asking, [b"other", more], [damaged, (second, "unreadable", "ExtensionNotNamed")]),
+            (asking, [], [missing]),
+            (plain, [more], [read, (first, "unreadable", "ExtensionNotNamed")]),
+        ):
+            some = found_.Blocks()
+            some.add(found_.XMP, packet, "somewhere")
+            some.blocks += [found_.FoundBlock(found_.XMP, data, it, "somewhere", extends=name) for it, data in zip((first, second), pieces)]
+            judged = judge.judge_all(some)
+            self.assertEqual([(it.name, it.status, it.cause) for it in judged], expected)
+            used = pieces[0] if packet == asking and pieces else b""
+            self.assertEqual(judged[0].octets, hashlib.sha256(packet + used).hexdigest())
+
+    def test_several_extensions_of_a_packet(self):
+        """Their bytes count in the order of their names, so that each run finds the same digest."""
+        pieces = {hashlib.md5(it).hexdigest().upper(): it for it in (packet_of(f"<dc:title>{number}</dc:title>") for number in range(8))}
+        notes = "".join(f"<note:HasExtendedXMP>{it}</note:HasExtendedXMP>" for it in pieces)
+        packet = packet_of(notes)
+        some = found_.Blocks()
+        some.add(found_.XMP, packet, "somewhere")
+        some.blocks += [found_.FoundBlock(found_.XMP, data, "extended XMP", "somewhere", extends=it) for it, data in pieces.items()]
+        judged = judge.judge_all(some)
+        self.assertEqual([(it.status, it.cause) for it in judged], [("accepted", None)])
+        self.assertEqual(judged[0].octets, hashlib.sha256(packet + b"".join(pieces[it] for it in sorted(pieces))).hexdigest())
+
+    def test_bytes_around_the_word_exif(self):
+        """ExifTool reads a segment that begins with `.{0,4}Exif\\0`, where a dot is any byte, and takes the block from the second byte after it."""
+        one = exif(b"Abc")
+        octets = [bytes([it]) for it in range(256)]
+        for head in (*(it + b"Exif\0\0" for it in octets), *(b"Exif\0" + it for it in octets), *(it * 4 + b"eXIF\0" + it for it in octets)):
+            found = jpeg_.read(io.BytesIO(jpeg(segment(0xE1, head + one))))
+            self.assertEqual([(it.kind, it.name, it.data) for it in found.blocks], [("exif", "Exif", one)], head)
+            self.assertEqual(found.not_read, [], head)
+
+    def test_segments_that_begin_as_kodaks(self):
+        """Kodak's `Meta` is in APP3, by ExifTool's table of segments. What begins so in others is something else, and is named, too."""
+        for head in (b"Meta\0\0", b"META\0\0", b"Exif\0\0"):
+            data = head + b"abc"
+            for marker in [it for it in range(0xE0, 0xF0) if it not in (0xE1, 0xED)]:
+                found = jpeg_.read(io.BytesIO(jpeg(segment(marker, data))))
+                self.assertEqual(
+                    (found.blocks, found.not_read),
+                    ([], [NotRead("APP3 segment Meta" if marker == 0xE3 else mock.ANY, hashlib.sha256(data).hexdigest())]),
+                    marker,
+                )
+
+
+class LookedAtAgain(unittest.TestCase):
+    def test_problems_that_may_be_solved(self):
+        """Although a file is the same: those of the system, and those of a program that was installed since."""
+        others = {"Vanished", "Moved", "LinkToNothing", "NotAFile", "Unreadable", "ToolFailed", "TooSlow", "InternalError"}
+        for there, expected in (((), others), (("exiftool",), others | {"NeedsExifTool"}), (("exiv2",), others | {"NeedsExiv2"})):
+            with mock.patch.object(index.programs, "is_there", there.__contains__):
+                found = {it for it in (None, *TEXTS) if index._worth_another(it)}
+            self.assertEqual(found, expected, there)
+
+
+class Processors(unittest.TestCase):
+    def test_how_many_processes_look_at_pictures(self):
+        """As many as there are processors that this process may use, or as many as are asked for."""
+        with mock.patch.object(os, "sched_getaffinity", lambda number: set(range(7)) if number == 0 else set()):
+            self.assertEqual([walk.How(jobs).processes for jobs in (0, 1, 3, 100)], [7, 1, 3, 100])
+
+    def test_processes_are_killed(self):
+        """By SIGKILL, which none can ignore; where there never were several, multiprocessing isn't imported."""
+        children = [mock.Mock(), mock.Mock()]
+        with mock.patch.dict(sys.modules, {"multiprocessing": mock.Mock(active_children=lambda: children)}):
+            signals.end_children()
+        self.assertEqual([it.mock_calls for it in children], [[mock.call.kill()]] * 2)
+        with mock.patch.dict(sys.modules):
+            sys.modules.pop("multiprocessing", None)
+            signals.end_children()
+            self.assertNotIn("multiprocessing", sys.modules)
+
+
+class Closed(WithPictures):
+    def by_itself(self, text):
+        """What a Python program prints, in this folder."""
+        done = run([sys.executable, "-c", text], self.folder)
+        self.assertEqual((done.returncode, done.stderr), (0, b""))
+        return done.stdout.decode().splitlines()
+
+    def test_signals_that_are_ignored(self):
+        """nohup ignores SIGHUP for a command (POSIX): it stays ignored."""
+        for ignored in ("SIGHUP", "SIGTERM"):
+            text = (
+                "import signal\nfrom exifnorm_pictures.files import signals as ends\n"
+                f"for it in ends.SIGNALS: signal.signal(it, signal.SIG_IGN if it.name == '{ignored}' else signal.SIG_DFL)\n"
+                "ends.heed_signals()\nprint(*[it.name for it in ends.SIGNALS if signal.getsignal(it) == signal.SIG_IGN])\n"
+                "print(*[it.name for it in ends.SIGNALS if signal.getsignal(it) == signal.SIG_DFL])"
+            )
+            self.assertEqual(self.by_itself(text), [ignored, ""])
+
+
+# ---- Small functions at their limits: how values are shown, how results are put into words, and how work is divided.
+
+
+class Work(WithPictures):
+    """How work is divided, and what a process makes of its part."""
+
+    def test_processes_begin_while_signals_are_held(self):
+        """The first task starts them: one that starts later could miss a signal, or get one that it doesn't handle."""
+        steps = []
+
+        @contextlib.contextmanager
+        def held():
+            steps.append("held")
+            yield {1}
+            steps.append("released")
+
+        def made(*words, **more):
+            steps.append((words, more.pop("mp_context").get_start_method(), more))
+            return SimpleNamespace(submit=steps.append)
+
+        how = walk.How()
+        with mock.patch.object(workers.signals, "signals_held", held), mock.patch.object(workers, "ProcessPoolExecutor", made):
+            workers._pool(how, 3)
+        self.assertEqual(
+            steps, ["held", ((3,), "fork", {"initializer": workers._begin, "initargs": (how, os.getpid(), {1})}), os.getpid, "released"]
+        )
+
+    def test_a_part_that_takes_long(self):
+        found = [FoundFile(b"/%d" % it, b"/", None) for it in range(4)]
+        times = iter([0.0, 1.9, 2.0, 2.1])
+        with mock.patch.object(
+            workers, "_look", lambda it, how: PictureRecord.of(it.path, it.root, problem="NoPicture" if how.whole else "Vanished")
+        ), mock.patch.object(workers.time, "monotonic", lambda: next(times)):
+            few = workers.look_at_some(workers.Task(found, self.path("rows")), walk.How(whole=True))
+            times = iter([0.0, 1.9, 2.0, 2.1])
+            with mock.patch.object(workers, "SHORT", 3):
+                it = workers.look_at_some(workers.Task(found, self.path("rows")), walk.How(whole=True))
+        self.assertEqual((it.file, it.states, it.lines, it.unread, it.left), (self.path("rows"), {"NoPicture": 3}, [], [], found[3:]))
+        self.assertEqual(([one.path for one in few.entries], few.left), ([b"/0", b"/1", b"/2"], found[3:]))
+
+
+class Walked(WithPictures):
+    """The files of a command."""
+
+    def test_files_and_links(self):
+        """A link to a file is that file; a link to a folder isn't followed; a link to nothing has no marks."""
+        for name in ("d/b/1", "d/.a/2", "d/3", "other/4"):
+            os.makedirs(os.path.dirname(self.path(name)), exist_ok=True)
+            write(self.path(name), name.encode())
+        for name, to in (("d/file", "3"), ("d/folder", "../other"), ("d/none", "nothing"), ("d/self", "self")):
+            os.symlink(to, self.path(name))
+        unlisted = []
+        names = [os.fsencode(self.path(it)) for it in ("d", "other/4", "nothing", "d/none", "d/3/x", "d/folder", "d/b/../3")]
+        found = list(walk.below(names, unlisted.append, [names[1], os.fsencode(self.path("d", "b", "1"))]))
+        size = {"d/3": 3, "d/file": 3, "d/.a/2": 6, "d/folder/4": 7}
+        expected = [
+            ("d/3", "d"),
+            ("d/file", "d"),
+            ("d/none", "d"),
+            ("d/self", "d"),
+            ("d/.a/2", "d"),
+            ("d/none", "d"),
+            ("d/folder/4", "d/folder"),
+            ("d/3", "d"),
+        ]
+        self.assertEqual(
+            [
+                (
+                    os.path.relpath(os.fsdecode(it.path), self.folder),
+                    os.path.relpath(os.fsdecode(it.root), self.folder),
+                    it.stamp and it.stamp.size,
+                )
+                for it in found
+            ],
+            [(name, root, size.get(name)) for name, root in expected],
+        )
+        self.assertEqual(found[0].stamp, Stamp.of(os.stat(self.path("d", "3"))))
+        self.assertEqual(unlisted, [walk.Unlisted(names[2], "no such file or directory"), walk.Unlisted(names[4], "not a directory")])
+
+
+class Sessions(WithPictures):
+    """What ExifTool is asked."""
+
+    def test_its_arguments(self):
+        calls, lines = [], []
+
+        def start(words, folder, is_asked):
+            calls.append((words, folder, is_asked))
+            return SimpleNamespace(poll=lambda: None)
+
+        answers = [
+            b'[{"SourceFile": "/a/b.jpg", "EXIF": "x"}]\n{done 1}\n',
+            b"{done 2}\n",
+            b'[{"SourceFile": "./link.Jpg"}]{done 3}\n',
+        ]
+        with mock.patch.multiple(
+            programs,
+            start=start,
+            needed=lambda it: it,
+            write=lambda _, octets, __: lines.append(octets),
+            read_until=lambda _, complete, __: self.complete(answers.pop(0), complete),
+        ):
+            it = exiftool.Process(self.folder, 60.0)
+            self.assertEqual(it.ask([b"/a/b.jpg"], ("-EXIF:Exif", "-XMP"), exiftool._OPTIONS), [{"EXIF": "x"}])
+            self.assertEqual(it.ask([b"/a/c"], (), exiftool._OPTIONS), [{}])
+            self.assertEqual(it.ask([b"/a/ d.Jpg"], (), exiftool._OPTIONS), [{}])
+        self.assertEqual(calls, [(["exiftool", "-config", "", "-stay_open", "True", "-@", "-"], self.folder, True)])
+        common = [b"-q", b"-q", b"-m", b"-json", b"-a", b"-G4", b"-b", b"-api", b"Filter=s/^(base64|text):/text:$1:/"]
+        self.assertEqual(
+            [it.split(b"\n") for it in lines],
+            [
+                [*common, b"-EXIF:Exif", b"-XMP", b"/a/b.jpg", b"-echo3", b"{done 1}", b"-execute", b""],
+                [*common, b"/a/c", b"-echo3", b"{done 2}", b"-execute", b""],
+                [*common, b"./link.Jpg", b"-echo3", b"{done 3}", b"-execute", b""],
+            ],
+        )
+
+    def complete(self, octets, complete):
+        """An output, which is complete with its last byte and not before."""
+        self.assertEqual([complete(bytearray(octets[:-1])), complete(bytearray(octets))], [False, True])
+        return octets
+
+    def test_names_that_exiftool_could_misread(self):
+        with mock.patch.multiple(programs, start=lambda *_, **__: None, needed=lambda it: it):
+            it = exiftool.Process(self.folder, 60.0)
+        for path in (b"/a/b.jpg", b"/A_z0-9./+,@%~()="):
+            self.assertEqual((it._handed_over(path, 0), os.listdir(self.folder)), (path, []))
+        for path, link in (
+            (b"/a b.jpg", "link.jpg"),
+            (b"/a#", "link"),
+            ("/\u00fc.x".encode(), "link.x"),
+            (b"/a\n.tif", "link.tif"),
+            (b"/a .abcdefgh", "link.abcdefgh"),
+            (b"/a .abcdefghi", "link"),
+            (b"/*.jpg\n", "link"),
+            (b"/\xff.A1", "link.A1"),
+        ):
+            self.assertEqual(it._handed_over(path, 0), b"./" + link.encode())
+            self.assertEqual(os.readlink(os.fsencode(self.path(link))), path)
+            self.assertEqual(it._handed_over(path, 0), b"./" + link.encode(), "the link is made again")
+        with mock.patch.object(os, "getcwdb", lambda: b"/x"):  # names are relative to this process's folder, and not to ExifTool's
+            self.assertEqual(it._handed_over(b"a/../b.jpg", 0), b"/x/b.jpg")
+            self.assertEqual(it._handed_over(b"-c d.jpg", 0), b"./link.jpg")
+            self.assertEqual(it._handed_over(b"-c d.jpg", 1), b"./link1.jpg")
+        self.assertEqual(os.readlink(os.fsencode(self.path("link.jpg"))), b"/x/-c d.jpg")
+
+    def test_one_exiftool_for_many_files(self):
+        """It is started for the first, and again only after it ended or failed; then it is closed."""
+        with session.Session(room=self.folder) as own, mock.patch.object(exiftool, "Process") as made:
+            here, counts = made.return_value, lambda: (made.call_count, made.return_value.close.call_count)
+            here.process.poll.return_value = None
+            self.assertEqual([exiftool.ask(own, it, ()) for it in (b"a", b"b", b"c")], [here.ask.return_value[0]] * 3)
+            self.assertEqual((made.call_args, counts()), (mock.call(own.folder(), own.seconds), (1, 0)))
+            here.process.poll.return_value = 1
+            exiftool.ask(own, b"d", ())
+            self.assertEqual(counts(), (2, 1))
+            here.process.poll.return_value, here.ask.side_effect = None, programs.Failed("it ended")
+            self.assertRaises(programs.Failed, exiftool.ask, own, b"e", ())
+            self.assertEqual((counts(), own.tool), ((2, 2), None))
+            own.close_tool()
+            self.assertEqual(counts(), (2, 2))
+
+
+# ---- Sets of numbers of rows, compared with Python's sets.
+
+NUMBERS = strategies.sets(strategies.integers(-3000, 5000) | strategies.integers(-(1 << 62), 1 << 62), max_size=30)
+ALL = range(-3000, 5000, 7)
+
+
+def members(numbers, others):
+    return {number for number in {*ALL, *others} if number in numbers}
+
+
+@given(NUMBERS, NUMBERS, strategies.booleans(), strategies.booleans())
+def test_sets(first, second, is_first_rest, is_second_rest):
+    """Each is some numbers, or all but these."""
+    every = {*ALL, *first, *second}
+    numbers, sets = [], []
+    for given_, is_rest in ((first, is_first_rest), (second, is_second_rest)):
+        ours = Numbers((number,) for number in given_)
+        assert sorted(ours) == sorted(given_) and ours.count(0) == len(given_) and bool(ours) == bool(given_)
+        numbers.append(~ours if is_rest else ours)
+        sets.append(every - given_ if is_rest else given_)
+    for ours, its in (
+        (numbers[0], sets[0]),
+        (numbers[0] & numbers[1], sets[0] & sets[1]),
+        (numbers[0] | numbers[1], sets[0] | sets[1]),
+        (numbers[0] & ~numbers[1], sets[0] - sets[1]),
+    ):
+        assert members(ours, every) == its
+        assert ours.count(len(every)) == len(its)
+        assert {number for number, _ in ours.chosen([(number, "") for number in every])} == its
+        assert bool(ours) or not its
+
+
+def test_all_but_none():
+    assert not Numbers() and not ~~Numbers() and ~Numbers() and not Numbers() & ~Numbers()
+    assert not Numbers([(1,)]) & ~Numbers([(1,)])
+
+
+# ---- Names of files in one line: no character controls a terminal, and different names are different.
+
+# Pieces that could be taken for one another: bytes that are no UTF-8, characters with their numbers, what they are escaped as, controls of the
+# writing direction, and whatever else a name can have
+BYTES = st.integers(0x80, 0xFF).map(lambda it: bytes([it]))
+CHARACTERS = st.one_of(st.integers(0x7F, 0x100), st.integers(0x2000, 0x206F), st.sampled_from([0x61C, 0xFEFF, 0xE0001, 0x10FFFF])).map(chr)
+ESCAPED = st.sampled_from(
+    ["\\", "\\\\", "\\x", "\\x85", "\\u", "\\u0085", "\\U", "\\U000e0001", "\\n", "\n", "\r", "\t", "\x1b", "n", "85", "u0085"]
+)
+PIECES = st.one_of(BYTES, st.one_of(CHARACTERS, ESCAPED, st.text(max_size=3)).map(lambda it: it.encode("utf-8", "surrogatepass")))
+NAMES = st.lists(PIECES, max_size=4).map(b"".join)
+
+
+@given(NAMES)
+def test_one_printable_line(name):
+    assert texts.shown_path(name).isprintable()
+
+
+@given(NAMES, NAMES)
+def test_different_names_are_different(one, other):
+    assert (texts.shown_path(one) == texts.shown_path(other)) is (one == other)
+
+
+@given(NAMES)
+def test_the_name_can_be_read_back(name):
+    assert os.fsencode(read_back(texts.shown_path(name))) == name
+
+
+def read_back(shown):
+    """The text of a shown name, with each byte as Python has it in names."""
+    text, at = "", 0
+    while at < len(shown):
+        if shown[at] != "\\":
+            text, at = text + shown[at], at + 1
+            continue
+        mark = shown[at + 1]
+        digits = {"x": 2, "u": 4, "U": 8}.get(mark, 0)
+        if digits:
+            number = int(shown[at + 2 : at + 2 + digits], 16)
+            text += chr(number + 0xDC00 if mark == "x" and number > 0x7F else number)
+        else:
+            text += {"n": "\n", "r": "\r", "t": "\t", "\\": "\\"}[mark]
+        at += 2 + digits
+    return text
+
+
+def test_controls_are_escaped():
+    """Those of Unicode's categories Cc, Cf, Zl and Zp, and spaces other than U+0020."""
+    for character in "\0\x1b\x7f\x85\xa0\xad\u061c\u200b\u202e\u2028\u2029\u2066\u3000\ufeff\U000e0001":
+        assert character not in texts.shown_path(character.encode())
+        assert texts.shown_path(character.encode()).startswith("\\")
+
+
+WORDS = st.sampled_from(["a", "b", "ccccc", "..", ".", "", "-a", ".h", "a.b", "a.."])
+
+
+@given(st.sampled_from(["", "a", "a/b/ccccc"]), st.lists(WORDS, min_size=1, max_size=7), st.booleans())
+def test_a_path_from_the_current_folder(here, words, is_near):
+    """It leads where the path leads, and is no longer than the shortest one."""
+    with tempfile.TemporaryDirectory() as top, pytest.MonkeyPatch.context() as patch:
+        os.makedirs(os.path.join(top, here), exist_ok=True)
+        patch.chdir(os.path.join(top, here))
+        name = "/".join([top if is_near else "/b", *words])
+        shown = texts.near(name)
+        assert os.path.abspath(shown) == os.path.abspath(name)
+        assert len(shown) <= len("./") + min(map(len, (os.path.relpath(name), os.path.abspath(name))))
+        assert not shown.startswith("-") and (len(shown) < len(name) or shown == name)

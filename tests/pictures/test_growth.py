@@ -12,11 +12,12 @@ import itertools
 import json
 import math
 import os
+import re
 import shutil
 from collections import Counter
 
 import pytest
-from formats_page import WORDS
+from commands import text_of
 from growing import FOLDERS, FORMATS as MAKERS, IN_EACH_FORMAT, KINDS, OF_SHARED, OTHERS, Whole
 from work import COUNTED, Work
 
@@ -238,6 +239,10 @@ def is_long(pytestconfig):
     return pytestconfig.getoption("--long")
 
 
+# Of each format whether it may have Exif, IPTC and XMP, by the first table of the document.
+SIGNS = dict(re.findall(r"(?m)^\| ([^|]+) \| ([●–] \| [●–] \| [●–]) \|", text_of("docs", "COMPARED.md")))
+
+
 # Texts are inside a packet, of which the reader of a format knows the bytes alone; and these grow with its fields, too.
 @pytest.mark.parametrize("name, growth", [it for it in itertools.product(MAKERS, IN_EACH_FORMAT) if it[0] == FIRST or it[1] != "texts"])
 def test_pictures_of_a_format(name, growth, counting, start, folder, is_long):
@@ -249,8 +254,7 @@ def test_pictures_of_a_format(name, growth, counting, start, folder, is_long):
 
     size = growth.long if is_long else growth.short
     is_first = is_long or name == FIRST
-    places = WORDS[name]
-    has = {kind for kind, where in zip(KINDS, (places.exif, places.iptc, places.xmp)) if where}
+    has = {kind for kind, sign in zip(KINDS, SIGNS[name].split(" | ")) if sign == "●"}
     expected = {kind: count for kind, count in growth.make(size, b"qa").texts.items() if kind in has}
     if name == "NAME.xmp" and growth.make.__name__ == "of_packets":
         expected = {"xmp": 1}  # the file is the packet

@@ -8,6 +8,7 @@ import pytest
 from made_files import app13, jpeg, resource
 from studio import SMALL_JPEG, put
 from test_list import record
+from exifnorm_pictures.scan import index
 
 OTHER_PICTURE = SMALL_JPEG.replace(b"\xff\xdb\0\x43\0", b"\xff\xdb\0\x43\1", 1)  # with another table of quantization
 OTHER = jpeg(app13(resource(0x0404, record([("title", "Bowl")]))))
@@ -20,7 +21,6 @@ def vase(title, creator="Anna"):
 @pytest.fixture
 def nights(folder, called, monkeypatch):
     """Five nights: a picture as it came, the same, with another title, moved, and gone."""
-    from exifnorm_pictures.scan import index
 
     def night(number):
         monkeypatch.setattr(index, "_now", lambda: f"2026-03-0{number}T02:00:00Z")
@@ -74,8 +74,6 @@ def test_a_picture_that_came_later(folder, nights, states, called):
 @pytest.mark.parametrize("name", ("p/in/a.jpg", "p/out/a2.jpg"))
 def test_moved_and_edited_in_one_night(words, is_told, name, folder, called, states, monkeypatch):
     """Without digests of the coded pictures nobody knows whether it is another one: the note says so. With them it is found."""
-    from exifnorm_pictures.scan import index
-
     put(folder / "p", {"in/a.jpg": vase("Vase"), "in/b.jpg": jpeg(base=OTHER_PICTURE)})
     for number in (1, 2):
         monkeypatch.setattr(index, "_now", lambda day=number: f"2026-03-0{day}T02:00:00Z")
@@ -90,8 +88,6 @@ def test_moved_and_edited_in_one_night(words, is_told, name, folder, called, sta
 
 def test_a_new_picture_is_new(folder, called, states, monkeypatch):
     """If no other picture is gone in that night, it had no other name."""
-    from exifnorm_pictures.scan import index
-
     put(folder / "p", {"in/b.jpg": OTHER})
     for number in (1, 2):
         monkeypatch.setattr(index, "_now", lambda day=number: f"2026-03-0{day}T02:00:00Z")
@@ -104,7 +100,6 @@ def test_a_new_picture_is_new(folder, called, states, monkeypatch):
 @pytest.fixture
 def indexed(folder, called, monkeypatch):
     """Catalogues of nights, each with these pictures alone."""
-    from exifnorm_pictures.scan import index
 
     def of(*nights):
         for number, pictures in enumerate(nights, 1):

@@ -28,7 +28,7 @@ NAMES = [
 
 @needs("exiftool")
 class Hostile(WithPictures):
-    def test_names(self):
+    def test_functions(self):
         os.mkdir(self.path("p"))
         picture = with_exif(SMALL_JPEG, block([MAKE]))
         for name in NAMES:

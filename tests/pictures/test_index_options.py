@@ -2,15 +2,14 @@
 
 import json
 import os
-import sqlite3
 from unittest import mock
 
 import pytest
 from made_files import app1, exif, jpeg
-from studio import needs, put
+from studio import needs, put, sql_rows
 from test_maker_notes import noted
 
-from exifnorm_pictures.scan import batches, index
+from exifnorm_pictures.scan import index, walk
 
 ONE, OTHER = jpeg(app1(exif(b"abc"))), jpeg(app1(exif(b"xyz")))
 
@@ -28,11 +27,8 @@ def archive(folder):
 
 def known(folder):
     """The paths below the folder that are in the catalogue, and their problems."""
-    base = sqlite3.connect(folder / "c")
     top = os.path.join(os.fsencode(folder), b"p/")
-    found = {path[len(top) :]: problem for path, problem in base.execute("SELECT path, problem FROM pictures")}
-    base.close()
-    return found
+    return {path[len(top) :]: problem for path, problem in sql_rows(folder / "c", "SELECT path, problem FROM pictures")}
 
 
 ALL = {b"a.jpg", b"a.tmp", b"raw/b.jpg", b"raw/deep/c.jpg", b"sub/raw/d.jpg", b"sub/@eaDir/e.jpg", b"sub/f\xff.jpg", b"[x].jpg"}
@@ -84,8 +80,8 @@ def test_a_picture_that_is_named_is_excluded_by_its_name(archive, called):
 def test_how_nightly_looks_at_pictures(folder, called, monkeypatch):
     """As index does, with its options."""
     put(folder / "p", {"a.jpg": ONE, "b.tmp.jpg": OTHER})
-    hows, how = [], batches.How.__new__
-    monkeypatch.setattr(batches.How, "__new__", lambda *given, **more: hows.append(how(*given, **more)) or hows[-1])
+    hows, how = [], walk.How.__new__
+    monkeypatch.setattr(walk.How, "__new__", lambda *given, **more: hows.append(how(*given, **more)) or hows[-1])
     _, printed, _ = called("nightly", "p", "--catalogue", "n", "--exclude", "*.tmp.jpg", "--maker-notes")
     assert "1 picture" in printed and hows[-1].maker_notes
 

@@ -15,8 +15,7 @@ from studio import SMALL_JPEG
 from exifnorm_pictures.catalogue.store import Catalogue
 from exifnorm_pictures.model.records import PictureRecord
 from exifnorm_pictures.scan import index, workers
-from exifnorm_pictures.scan.batches import How, batch
-from exifnorm_pictures.scan.walk import Excluded
+from exifnorm_pictures.scan.walk import Excluded, How, batch
 
 NAMES = [b"a", b"a/b", b"a/b/c", b"a/d", b"e"]  # of folders
 FILES = [b"1.jpg", b"1.xmp", b"2.jpg", b"3.txt"]

@@ -28,8 +28,7 @@ from exifnorm_pictures.model.found import EXIF, IPTC, Blocks, Broken
 from exifnorm_pictures.model.texts import Result
 from exifnorm_pictures.model.records import side_of
 from exifnorm_pictures.scan import looking
-from exifnorm_pictures.scan.batches import How
-from exifnorm_pictures.scan.walk import FoundFile
+from exifnorm_pictures.scan.walk import FoundFile, How
 
 EXTENDED = extension(T, 90)[0]
 PIECES = {

@@ -10,11 +10,10 @@ import exifnorm_pictures
 import jsonschema
 import pytest
 from exact_fields import field
-from made_files import jpeg, xmp
+from made_files import data_set, jpeg, with_record, with_texts, xmp
 from studio import TOP, needs
-from test_captions import data_set, with_record, with_texts
 
-from exifnorm_pictures.cli import parser
+from exifnorm_pictures.cli import main, parser
 from exifnorm_pictures.fields.typed import typed
 
 SCHEMA = json.loads(Path(exifnorm_pictures.__path__[0], "output.schema.json").read_text(encoding="utf-8"))
@@ -45,8 +44,6 @@ VALIDATOR = jsonschema.Draft202012Validator(closed(SCHEMA))
 @pytest.fixture
 def objects(folder, capsys, monkeypatch):
     """The objects that a command prints, all of them checked by the schema."""
-    from exifnorm_pictures.cli import main
-
     monkeypatch.chdir(folder)
 
     def call(*words):

@@ -17,6 +17,7 @@ from test_list import picture
 
 from exifnorm_pictures.catalogue import kept_texts, store
 from exifnorm_pictures.scan import relocating
+from exifnorm_pictures.scan.progress import Progress
 
 NAMES, WORDS = ("Anna", "Otto", "Lena"), ("clay", "glaze", "bowl")
 FILES = [f"{top}/{name}.jpg" for top in "ab" for name in "xyz"]
@@ -264,6 +265,4 @@ def test_of_a_text_that_is_not_kept_nothing_is_known(folder, called, inside, que
 
 
 def test_a_terminal_shows_how_far_it_is():
-    from exifnorm_pictures.scan.progress import Progress
-
     assert Progress(1_000_000, what="preparing questions: ").text(12_000, 0) == "preparing questions: 12,000 of 1,000,000 pictures"

@@ -12,12 +12,11 @@ import re
 import pytest
 from growing import FORMATS
 from made_blocks import SHORT
-from made_files import iim, page, resource, tiff, xmp
+from made_files import data_set, iim, page, resource, tiff, xmp
 from made_more_files import psd
 from largest import FILLINGS, SIZES, made, of_name
 from studio import name_of, sql_rows
 from test_attacks import NO_CLOCK, run_each
-from test_captions import data_set
 
 from exifnorm import pictures
 from exifnorm_pictures.cli.parser import parsers

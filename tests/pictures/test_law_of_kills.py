@@ -34,8 +34,8 @@ SMALL = "from exifnorm_pictures.scan import index; index.BATCH = 1\nfrom exifnor
 # where SQLite keeps a journal, no file is without a name, and only one that is open to write can be locked for one process
 SHARE = """
 import fcntl
-from exifnorm_pictures.files import mounts
-mounts.is_on_network = lambda _: True
+from exifnorm_pictures.catalogue import store
+store.is_on_network = lambda _: True
 del os.O_TMPFILE
 def flock(file, how, call=fcntl.flock):
     if how & fcntl.LOCK_EX and fcntl.fcntl(file, fcntl.F_GETFL) & os.O_ACCMODE == os.O_RDONLY:

@@ -7,15 +7,20 @@ import json
 import random
 import re
 import shlex
-import sqlite3
 import struct
 import unicodedata
 
 import pytest
 from made_files import app1, app1_xmp, app13, jpeg, png, png_xmp, resource, xmp
 from made_more_files import gif
-from studio import needs, put, tool
+from studio import needs, put, sql_rows, tool
 from test_maker_notes import noted
+from exifnorm_pictures.catalogue import asking
+from exifnorm_pictures.catalogue.asking import Answer
+from exifnorm_pictures.catalogue.kept_texts import kept_text
+from exifnorm_pictures.catalogue.store import Catalogue, put_rows, put_text
+from exifnorm_pictures.fields.questions import question_of
+from exifnorm_pictures.model.records import PictureRecord
 
 DATASETS = {"title": 5, "keywords": 25, "creator": 80, "credit": 110, "caption": 120, "city": 90, "date created": 55}
 WORDS = (
@@ -140,10 +145,8 @@ def fits(question, texts):
 
 
 @pytest.mark.parametrize("seed", range(4))
-def test_questions(folder, called, asked, seed, monkeypatch):
+def test_questions(called, asked, seed, monkeypatch, indexed):
     """Each drawn question lists exactly the pictures whose texts fit it, from a catalogue as from the folder, and by each way to find them."""
-    from exifnorm_pictures.catalogue import asking
-
     monkeypatch.setattr(asking, "_FEW", (0, 3, 10_000, 10_000)[seed])  # texts that differ, up to which each is tested once
     monkeypatch.setattr(asking, "_SHARE", (0, 2, 20, 10_000)[seed])  # of all pictures, from which on their paths are gone through
     rng = random.Random(seed)
@@ -155,8 +158,7 @@ def test_questions(folder, called, asked, seed, monkeypatch):
             count = rng.choice((1, 2, 3)) if label == "keywords" else 1
             texts += [(label, rng.choice(DATES if label == "date created" else WORDS)) for _ in range(count)]
         known[f"{number:02}.jpg"] = texts
-    put(folder / "p", {name: picture(texts) for name, texts in known.items()})
-    called("index", "p", "--catalogue", "c", "--quiet")
+    indexed({name: picture(texts) for name, texts in known.items()})
     for _ in range(60):
         question = drawn(rng)
         listed, status, summary = asked("--where", text_of(question))
@@ -166,9 +168,8 @@ def test_questions(folder, called, asked, seed, monkeypatch):
     assert [json.loads(it)["path"].rpartition("/")[2] for it in of_folder[:-1]] == listed
 
 
-def test_options_hold_together(folder, called, asked):
-    put(folder / "p", {"a.jpg": picture([("title", "A"), ("credit", "B")]), "b.jpg": picture([("title", "A")]), "c.jpg": picture([])})
-    called("index", "p", "--catalogue", "c", "--quiet")
+def test_options_hold_together(asked, indexed):
+    indexed({"a.jpg": picture([("title", "A"), ("credit", "B")]), "b.jpg": picture([("title", "A")]), "c.jpg": picture([])})
     assert asked("--with", "title", "--without", "credit")[0] == ["b.jpg"]
     assert asked("--with", "Title", "--where", "credit = b")[0] == ["a.jpg"]
     assert asked()[0] == ["a.jpg", "b.jpg", "c.jpg"]
@@ -177,24 +178,22 @@ def test_options_hold_together(folder, called, asked):
 # Pictures that were not wholly read
 
 
-def test_what_was_not_read_is_counted_apart(folder, called, asked):
+def test_what_was_not_read_is_counted_apart(called, asked, indexed):
     """A picture that has lost a part may have had the text there: it is neither with it nor without it."""
     whole = picture([("title", "A")], app1_xmp(xmp("<dc:source>x</dc:source>")))
-    put(folder / "p", {"whole.jpg": whole, "cut.jpg": whole[:40], "none.jpg": picture([]), "text.txt": b"no picture"})
-    called("index", "p", "--catalogue", "c", "--quiet")
+    indexed({"whole.jpg": whole, "cut.jpg": whole[:40], "none.jpg": picture([]), "text.txt": b"no picture"})
     assert asked("--with", "title") == (["whole.jpg"], 2, {**asked("--with", "title")[2], "pictures": 3, "listed": 1, "not_known": 1})
     listed, status, summary = asked("--without", "title")
     assert (listed, status, summary["not_known"]) == (["none.jpg"], 2, 1)
     assert "1 more may fit" in called("list", "c", "--without", "title")[1]
 
 
-def test_each_picture_fits_or_does_not_or_may(folder, called, asked):
+def test_each_picture_fits_or_does_not_or_may(called, asked, indexed):
     """A question and its opposite list each picture once, but for those of which it isn't known. Damage is known where texts aren't, and texts
     where damage isn't."""
     rng, whole = random.Random(1), picture([("title", "clay"), ("keywords", "7")])
     broken = {"cut.jpg": whole[:-20], "lost.jpg": whole[:40], "refused.jpg": picture([], app1(b"II*\0\xff\xff\0\0")), "a.gif": gif()}
-    put(folder / "p", {"whole.jpg": whole, **broken})
-    called("index", "p", "--catalogue", "c", "--pixels", "--quiet")
+    indexed({"whole.jpg": whole, **broken}, "--pixels")
     for _ in range(40):
         question = f"{text_of(drawn(rng))} {rng.choice(('and', 'or'))} {rng.choice(('with', 'without'))} damage"
         (fit, status, last), (others, *opposite) = asked("--where", question), asked("--where", f"not ({question})")
@@ -208,16 +207,14 @@ def test_each_picture_fits_or_does_not_or_may(folder, called, asked):
 _PHOTOSHOP = "xmlns:photoshop='http://ns.adobe.com/photoshop/1.0/'"
 
 
-def test_texts_that_are_not_kept(folder, called, asked):
+def test_texts_that_are_not_kept(asked, indexed):
     """A text that is too long for the catalogue may have the word that is asked for."""
-    put(
-        folder / "p",
+    indexed(
         {
             "long.png": png(png_xmp(xmp(f"<photoshop:Source>{'x' * 70_000} clay</photoshop:Source>", outer=_PHOTOSHOP))),
             "short.jpg": picture([]),
-        },
+        }
     )
-    called("index", "p", "--catalogue", "c", "--quiet")
     assert asked("--where", "source has clay")[1:] == (2, {**asked()[2], "listed": 0, "not_known": 1})
     assert asked("--without", "source")[0] == ["short.jpg"]
 
@@ -252,7 +249,7 @@ def test_fields_of_each_standard(folder, called, asked):
     assert json.loads(called("list", "c", "--geojson", "--where", "title = none")[1]) == {"type": "FeatureCollection", "features": []}
 
 
-def test_structures_are_asked_for_by_their_plain_words(folder, called, asked):
+def test_structures_are_asked_for_by_their_plain_words(asked, indexed):
     """Also in a list in which one member is a text."""
     structure = "<rdf:li rdf:parseType='Resource'><dc:source>Attic</dc:source></rdf:li>"
     packets = {
@@ -260,18 +257,16 @@ def test_structures_are_asked_for_by_their_plain_words(folder, called, asked):
         "b": "<dc:relation><rdf:Seq><rdf:li>vase</rdf:li></rdf:Seq></dc:relation>",
         "c": f"<dc:relation><rdf:Bag>{structure}</rdf:Bag></dc:relation>",
     }
-    put(folder / "p", {f"{name}.jpg": jpeg(app1_xmp(xmp(packet))) for name, packet in packets.items()})
-    called("index", "p", "--catalogue", "c", "--quiet")
+    indexed({f"{name}.jpg": jpeg(app1_xmp(xmp(packet))) for name, packet in packets.items()})
     assert asked("--where", "XMP-dc:relation has attic")[0] == ["a.jpg", "c.jpg"]
     assert asked("--where", "XMP-dc:relation has vase")[0] == ["a.jpg", "b.jpg"]
     assert asked("--where", "XMP-dc:relation = vase")[0] == ["b.jpg"]
 
 
 @needs("exiftool")
-def test_owners_in_maker_notes(folder, called, asked):
+def test_owners_in_maker_notes(called, asked, indexed):
     """A MakerNote may have a serial number or an owner: where ExifTool wasn't asked, that isn't known."""
-    put(folder / "p", {"canon.jpg": noted(b"Annette"), "plain.jpg": picture([])})
-    called("index", "p", "--catalogue", "c", "--quiet")
+    indexed({"canon.jpg": noted(b"Annette"), "plain.jpg": picture([])})
     assert asked("--without", "owner")[:2] == (["plain.jpg"], 2) and asked("--with", "owner")[2]["not_known"] == 1
     for words in (["--with", "owner"], ["--count", "owner"]):  # which says why, and nothing that isn't so
         said = called("list", "c", *words)[1]
@@ -280,8 +275,7 @@ def test_owners_in_maker_notes(folder, called, asked):
     called("index", "p", "--catalogue", "c", "--quiet", "--again", "--maker-notes")
     assert asked("--where", "owner = annette")[:2] == (["canon.jpg"], 0)
     assert asked("--without", "owner")[:2] == (["plain.jpg"], 0)
-    put(folder / "p", {"refused.jpg": jpeg(app1(b"II*\0\xff\xff\0\0"))})
-    called("index", "p", "--catalogue", "c", "--quiet", "--maker-notes")
+    indexed({"refused.jpg": jpeg(app1(b"II*\0\xff\xff\0\0"))}, "--maker-notes")
     for words in (["--with", "owner"], ["--count", "owner"]):
         said = called("list", "c", *words)[1]
         assert "wholly" in said and "MakerNote" not in said, said
@@ -290,10 +284,9 @@ def test_owners_in_maker_notes(folder, called, asked):
 # Counts
 
 
-def test_counts_of_a_label(folder, called):
+def test_counts_of_a_label(called, indexed):
     names = ["Otto Weiß"] * 3 + ["otto weiss", "Müller, Anna", "Anna Müller", "Muller Anna"]
-    put(folder / "p", {f"{number}.jpg": picture([("creator", name)]) for number, name in enumerate(names)} | {"none.jpg": picture([])})
-    called("index", "p", "--catalogue", "c", "--quiet")
+    indexed({f"{number}.jpg": picture([("creator", name)]) for number, name in enumerate(names)} | {"none.jpg": picture([])})
     *texts, last = map(json.loads, called("list", "c", "--count", "creator", "--json")[1].splitlines())
     assert [(it["text"], it["pictures"], it["like"]) for it in texts] == [
         ("Otto Weiß", 3, None),
@@ -326,15 +319,14 @@ def test_spellings_of_long_texts(folder, called):
 
 
 @pytest.mark.parametrize("seed", range(3))
-def test_counts_add_up(seed, folder, called):
+def test_counts_add_up(seed, folder, called, indexed):
     """By how the pictures were made: long and short keywords, none, a refused block, and a file that is no picture."""
     rng = random.Random(seed)
     words = ["clay", "x" * 60, "y" * 60, "Clay", "7"]
     known = {f"{number:02}.jpg": rng.sample(words, rng.randrange(4)) for number in range(20)}
     put(folder / "p", {name: picture([("keywords", word) for word in of_picture]) for name, of_picture in known.items()})
     refused = jpeg(app1(b"II*\0\xff\xff\0\0"))
-    put(folder / "p", {"r.jpg": refused, **({"d.txt": b"text"} if seed else {})})
-    called("index", "p", "--catalogue", "c", "--quiet")
+    indexed({"r.jpg": refused, **({"d.txt": b"text"} if seed else {})})
     status, printed, _ = called("list", "c", "--count", "keywords", "--json")
     *texts, last = map(json.loads, printed.splitlines())
     counts = {word: sum(word in of_picture for of_picture in known.values()) for word in words}
@@ -347,16 +339,13 @@ def test_counts_add_up(seed, folder, called):
 
 @pytest.mark.parametrize("at_once", [1, 2, 3, 1000])
 @pytest.mark.parametrize("question", [[], ["--with", "title"], ["--without", "title"]], ids=" ".join)
-def test_each_picture_has_its_own_texts(at_once, question, folder, called, monkeypatch):
+def test_each_picture_has_its_own_texts(at_once, question, called, monkeypatch, indexed):
     """However many are asked for at once: also pictures without a text, and a long text before a short one."""
-    from exifnorm_pictures.catalogue import asking
-
     long = "clay from the banks of the river, dug by hand"
     keywords = {"a": [], "b": [long, "x"], "c": ["x", long], "d": [], "e": ["y"], "f": [long], "g": []}
     titles = {"a": ["A"], "b": [], "c": ["C"], "d": [], "e": ["E"], "f": ["F"], "g": []}
     words = {name: [*(("title", it) for it in titles[name]), *(("keywords", it) for it in keywords[name])] for name in keywords}
-    put(folder / "p", {f"{name}.jpg": picture(words[name]) for name in words})
-    called("index", "p", "--catalogue", "c", "--quiet")
+    indexed({f"{name}.jpg": picture(words[name]) for name in words})
     monkeypatch.setattr(asking, "_AT_ONCE", at_once)
     printed = called("list", "c", "--json", "--columns", "keywords,title", *question)[1]
     fitting = [name for name in words if not question or bool(titles[name]) == (question[0] == "--with")]
@@ -367,16 +356,13 @@ def test_each_picture_has_its_own_texts(at_once, question, folder, called, monke
 # Since
 
 
-def test_since(folder, called, asked, monkeypatch):
-    put(folder / "p", {"a.jpg": picture([("title", "A")])})
-    called("index", "p", "--catalogue", "c", "--quiet")
+def test_since(folder, called, asked, monkeypatch, indexed):
+    indexed({"a.jpg": picture([("title", "A")])})
     assert asked("--since", "1971-01-01")[0] == ["a.jpg"]
     assert asked("--since", "2200-01-01")[0] == []
     # a run that reads all again finds nothing new, be it by one process or by several
-    put(folder / "p", {f"{number}.jpg": picture([("title", f"{number}")]) for number in range(70)})
-    called("index", "p", "--catalogue", "c", "--quiet")
-    with sqlite3.connect("c") as base:
-        base.execute("UPDATE runs SET started = '2020-01-01T00:00:00Z'")
+    indexed({f"{number}.jpg": picture([("title", f"{number}")]) for number in range(70)})
+    sql_rows("c", "UPDATE runs SET started = '2020-01-01T00:00:00Z'")
     for jobs, changed in (("1", "1.jpg"), ("2", "2.jpg")):
         (folder / "p" / changed).write_bytes(picture([("title", "changed")]))
         called("index", "p", "--catalogue", "c", "--quiet", "--again", "--jobs", jobs)
@@ -415,16 +401,14 @@ def test_since(folder, called, asked, monkeypatch):
         (["--since", "yesterday"], "day"),
     ],
 )
-def test_wrong_questions_are_explained(folder, called, words, marked):
-    put(folder / "p", {"a.jpg": picture([])})
-    called("index", "p", "--catalogue", "c", "--quiet")
+def test_wrong_questions_are_explained(called, words, marked, indexed):
+    indexed({"a.jpg": picture([])})
     status, printed, messages = called("list", "c", *words)
     assert (status, printed) == (3, "") and marked in messages and "Traceback" not in messages
 
 
-def test_a_star_in_quotes_is_a_character(folder, asked, called):
-    put(folder / "p", {"a.jpg": picture([("title", "10*")]), "b.jpg": picture([("title", "100")])})
-    called("index", "p", "--catalogue", "c", "--quiet")
+def test_a_star_in_quotes_is_a_character(asked, indexed):
+    indexed({"a.jpg": picture([("title", "10*")]), "b.jpg": picture([("title", "100")])})
     assert [asked("--where", it)[0] for it in ("title = '10*'", "title has '*'", "title like 10*")] == [
         ["a.jpg"],
         ["a.jpg"],
@@ -432,9 +416,8 @@ def test_a_star_in_quotes_is_a_character(folder, asked, called):
     ]
 
 
-def test_the_place_of_a_mistake_is_marked(folder, called):
-    put(folder / "p", {"a.jpg": picture([])})
-    called("index", "p", "--catalogue", "c", "--quiet")
+def test_the_place_of_a_mistake_is_marked(called, indexed):
+    indexed({"a.jpg": picture([])})
     for question, wrong in (
         ("title = A and creatr = B", "creatr"),
         ("title ~ A", "~"),
@@ -450,12 +433,6 @@ def test_the_place_of_a_mistake_is_marked(folder, called):
 
 def steps_of(name, question, count):
     """SQLite's steps for a question about so many pictures, each with a creator of its own and one of 50 keywords. It fits one of them."""
-    from exifnorm_pictures.catalogue.asking import Answer
-    from exifnorm_pictures.catalogue.kept_texts import kept_text
-    from exifnorm_pictures.catalogue.store import Catalogue, put_rows, put_text
-    from exifnorm_pictures.fields.questions import question_of
-    from exifnorm_pictures.model.records import PictureRecord
-
     with Catalogue(name, make=True) as catalogue:
         run = catalogue.begin_run("2026-01-01T00:00:00Z")
         empty = {"exif": "", "iptc": "", "xmp": "", "not_read": "", "other_not_read": ""}
@@ -493,9 +470,6 @@ def test_a_question_visits_few_rows(question, folder, called):
 
 
 def test_the_texts_of_many_pictures_are_asked_for_at_once(folder):
-    from exifnorm_pictures.catalogue.asking import Answer
-    from exifnorm_pictures.catalogue.store import Catalogue
-
     steps_of(str(folder / "c"), "creator = 'name 77'", 2_500)
     with Catalogue(str(folder / "c")) as catalogue:
         answer = Answer(catalogue, None)
@@ -508,14 +482,9 @@ def test_the_texts_of_many_pictures_are_asked_for_at_once(folder):
 
 
 @pytest.mark.parametrize("question", ["without credit", "creator != anna", "not keywords has clay or title = x"])
-def test_the_names_of_many_pictures_are_read_from_the_index_of_paths(question, folder, called):
+def test_the_names_of_many_pictures_are_read_from_the_index_of_paths(question, indexed):
     """Their rows are long, and lie in another order. What is damaged, too, is found without a row for each."""
-    from exifnorm_pictures.catalogue.asking import Answer
-    from exifnorm_pictures.catalogue.store import Catalogue
-    from exifnorm_pictures.fields.questions import question_of
-
-    put(folder / "p", {"a.gif": gif(), "b.jpg": picture([("title", "B")])[:-2]})
-    called("index", "p", "--catalogue", "c", "--quiet")
+    indexed({"a.gif": gif(), "b.jpg": picture([("title", "B")])[:-2]})
     with Catalogue("c") as catalogue:
         statements = []
         answer = Answer(catalogue, question_of(question))

@@ -113,10 +113,9 @@ def located(tags, letter):
 
 @needs("exiftool")
 @pytest.mark.parametrize("tags, names", [((1, 2, 3, 4), GPS[:2]), ((19, 20, 21, 22), GPS[2:4])])
-def test_letters_of_directions(tags, names, folder, called, asked):
+def test_letters_of_directions(tags, names, folder, asked, indexed):
     """Also small ones, and words: the sign is that of ExifTool."""
-    put(folder / "p", {f"{number}.jpg": located(tags, letter) for number, letter in enumerate(LETTERS)})
-    called("index", "p", "--catalogue", "c", "--quiet")
+    indexed({f"{number}.jpg": located(tags, letter) for number, letter in enumerate(LETTERS)})
     words = ["exiftool", "-config", "", "-j", "-n", *(f"-{name}" for name in names), "p"]
     expected = {
         it["SourceFile"].rpartition("/")[2]: [it[name] for name in names]
@@ -148,11 +147,10 @@ XMP_ANGLES = "xmlns:exif='http://ns.adobe.com/exif/1.0/' exif:GPSLatitude='{}' e
         (jpeg(app1_xmp(xmp("", XMP_ANGLES.format("7,30N", "8,15E")))), None),
     ],
 )
-def test_angles_that_make_no_position(picture, is_unclear, folder, called):
+def test_angles_that_make_no_position(picture, is_unclear, folder, called, indexed):
     """Whether the picture has a position isn't known, since other programs may show one: no rule and no question takes it for one without, and
     none for one with a position. So it is of an angle alone; one of 0/0, as phones write it, shows no place. None: it has a position."""
-    put(folder / "p", {"a.jpg": picture})
-    called("index", "p", "--catalogue", "c", "--quiet")
+    indexed({"a.jpg": picture})
     expected = {True: (0, 0, 1), False: (0, 1, 0), None: (1, 0, 0)}[is_unclear]
     for source in ("p", "c"):
         ends = [json.loads(called("list", source, option, "position", "--json")[1].splitlines()[-1]) for option in ("--with", "--without")]
@@ -284,10 +282,9 @@ def test_what_is_kept(drawn, called, folder):
     assert called("list", "c", "--with", "Copyright")[1].count(".jpg") == 0
 
 
-def test_what_is_not_known(called, folder, asked):
+def test_what_is_not_known(asked, indexed):
     """A picture with a block that can't be read may have the field; a MakerNote may have a serial number."""
-    put(folder / "p", {"a.jpg": noted(b"Abc"), "b.jpg": jpeg(app1(b"II*\0\xff\xff\0\0")), "c.jpg": jpeg(app1(BLOCKS["Unsorted"]))})
-    called("index", "p", "--catalogue", "c", "--quiet")
+    indexed({"a.jpg": noted(b"Abc"), "b.jpg": jpeg(app1(b"II*\0\xff\xff\0\0")), "c.jpg": jpeg(app1(BLOCKS["Unsorted"]))})
     found, status, last = asked("--without", "Rating")
     assert (set(found), status, last["not_known"]) == ({"a.jpg", "c.jpg"}, 2, 1)
     found, status, last = asked("--with", "SerialNumber")
@@ -297,9 +294,8 @@ def test_what_is_not_known(called, folder, asked):
 @pytest.mark.parametrize(
     "words, near", [(("--with", "FNumbr"), "FNumber"), (("--where", "IFD0:Modell = x"), "Model"), (("--columns", "titel"), "title")]
 )
-def test_a_name_of_no_field(words, near, called, folder):
-    put(folder / "p", {"a.jpg": SMALL_JPEG})
-    called("index", "p", "--catalogue", "c", "--quiet")
+def test_a_name_of_no_field(words, near, called, indexed):
+    indexed({"a.jpg": SMALL_JPEG})
     status, printed, messages = called("list", "c", *words)
     assert (status, printed) == (3, "") and near in messages
 
@@ -312,11 +308,10 @@ def test_a_name_of_no_field(words, near, called, folder):
     ],
     ids=["bytes", "DataSets"],
 )
-def test_of_fields_that_are_too_many_to_be_kept_nothing_is_known(limit, octets, name, folder, called, asked, monkeypatch):
+def test_of_fields_that_are_too_many_to_be_kept_nothing_is_known(limit, octets, name, asked, monkeypatch, indexed):
     """Nothing that stands for them is listed as a text, and the picture may fit."""
     monkeypatch.setattr(f"exifnorm_pictures.{limit}", 1)
-    put(folder / "p", {"a.jpg": octets})
-    called("index", "p", "--catalogue", "c", "--quiet")
+    indexed({"a.jpg": octets})
     assert not any(asked("--columns", name)[0]["a.jpg"].values())
     for words in (["--with", name], ["--where", f"{name} like '*'"], ["--without", name]):
         texts, status, last = asked(*words)

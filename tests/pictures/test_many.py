@@ -2,11 +2,10 @@
 
 import os
 import signal
-import sqlite3
 import subprocess
 import sys
 
-from studio import Studio, WithPictures, many, needs
+from studio import Studio, WithPictures, many, needs, sql_rows
 
 # Runs a command that waits after its first line of progress, so that it can't come to its end before the signal.
 WAITING = """
@@ -40,14 +39,12 @@ class Many(WithPictures):
         run, told = self.started(folder)
         run.send_signal(signal.SIGKILL)
         self.assertEqual(run.stderr.read(), b"")  # by none of its further processes, which end, too
-        base = sqlite3.connect(self.path("c"))
-        self.assertEqual(base.execute("SELECT count(*) FROM pictures JOIN blocks ON picture = id WHERE kind = 'exif'").fetchone(), (told,))
-        base.close()
+        kept = sql_rows(self.path("c"), "SELECT count(*) FROM pictures JOIN blocks ON picture = id WHERE kind = 'exif'")
+        self.assertEqual(kept, [(told,)])
         said = self.asked("index", folder, "--catalogue", "c")[0]
         self.assertEqual({*said.split(", ")}, {f"{2000 - told:,} accepted", f"{told:,} unchanged"})
-        base = sqlite3.connect(self.path("c"))
-        self.assertEqual(base.execute("SELECT count(*), count(DISTINCT path) FROM pictures").fetchone(), (2000, 2000))
-        self.assertEqual(base.execute("PRAGMA integrity_check").fetchone(), ("ok",))
+        self.assertEqual(sql_rows(self.path("c"), "SELECT count(*), count(DISTINCT path) FROM pictures"), [(2000, 2000)])
+        self.assertEqual(sql_rows(self.path("c"), "PRAGMA integrity_check"), [("ok",)])
 
     def test_stopped_by_the_keyboard(self):
         # a shell that ran these tests in the background would have the signal ignored

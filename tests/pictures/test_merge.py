@@ -7,7 +7,7 @@ import sys
 
 from in_process import InFolder
 from made_blocks import BLOCKS, MAKE, block, with_exif, with_iptc
-from studio import SMALL_JPEG, put, run, write
+from studio import SMALL_JPEG, put, run, sql_rows, write
 
 ONE, OTHER = (with_exif(SMALL_JPEG, block([MAKE[:-4] + it])) for it in (b"One\0", b"Two\0"))
 NUMBERS = ("id", "run", "picture")  # which differ from catalogue to catalogue
@@ -55,14 +55,10 @@ class Merge(InFolder):
 
     def test_pictures_keep_their_runs(self):
         for name in ("one", "two"):
-            base = sqlite3.connect(self.path(name + ".c"))
-            base.execute("UPDATE runs SET started = ?", (name,))
-            base.commit()
-            base.close()
+            sql_rows(self.path(name + ".c"), "UPDATE runs SET started = ?", name)
         self.asked("catalogue", "merge", "one.c", "two.c", "--catalogue", "all")
         query = "SELECT DISTINCT started, root FROM pictures JOIN runs ON runs.id = run"
-        found = sqlite3.connect(self.path("all")).execute(query).fetchall()
-        self.assertEqual(sorted(found), [(it, os.fsencode(self.path(it))) for it in ("one", "two")])
+        self.assertEqual(sorted(sql_rows(self.path("all"), query)), [(it, os.fsencode(self.path(it))) for it in ("one", "two")])
 
     def test_a_picture_in_several_is_there_once(self):
         write(self.path("one", "a.jpg"), OTHER)

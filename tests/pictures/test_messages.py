@@ -20,7 +20,7 @@ from exifnorm_pictures.extract import exiftool, programs
 from exifnorm_pictures.files import signals
 from exifnorm_pictures.model.records import Damaged
 from exifnorm_pictures.scan import progress, workers
-from exifnorm_pictures.scan.batches import How
+from exifnorm_pictures.scan.walk import How
 
 
 class CommandLine(unittest.TestCase):

@@ -3,6 +3,7 @@
 import argparse
 import collections
 import contextlib
+import html
 import os
 import re
 import shlex
@@ -12,7 +13,7 @@ import sqlite3
 import pytest
 from exifnorm_pictures.catalogue.store import VERSION
 from exifnorm_pictures.cli import parser
-from museum import run
+from museum import done, run
 from studio import needs, without_own_script
 from test_report import Text
 
@@ -46,7 +47,11 @@ LISTS = {
     "catalogues": "few\n",
     "doubled": "one/refused/Doubled.jpg\n",
     "fields": "# not these\nIFD0:Artist\nIPTC:Keywords\n",
+    "twice/manifest-sha256.txt": f"{'0' * 64}  data/1.jpg\n{'1' * 64}  data/1.jpg\n",
+    "outside/manifest-sha256.txt": f"{'0' * 64}  data/1.jpg\n{'1' * 64}  data/../1.jpg\n",
 }
+# Text files that commands write
+WRITTEN = "undo.args sums sums.hashdeep sack/manifest state letter.html".split()
 
 # What is called, one line each, in the folder that the fixture `museum` describes, each time as it was made; an indented line goes on with
 # what the calls before it left. No line is there twice in a command.
@@ -72,6 +77,17 @@ CALLS = {
             list parts --where 'title = "A vase"'
             same parts --kind iptc
             changed parts parts
+        index archive/copies archive/desk --shards parts3 --jobs 1 --quiet
+            index archive/copies archive/nowhere --shards parts3 --jobs 1 --quiet
+            index archive/copies/first.jpg --shards parts3 --quiet
+            index . --shards parts3 --quiet
+            index archive --shards parts3 --quiet
+            index archive/copies --shards parts3 --exclude 'first*' --jobs 1
+        index archive --shards one --quiet
+        index archive --shards few --quiet
+        index archive/contradictions archive/sidecars --shards parts4 --jobs 1 --sidecars --pixels --quiet
+            index archive/contradictions archive/sidecars archive/rare --shards parts4 --jobs 1
+            list parts4 --with position --csv
     """,
     "catalogue merge": """
         catalogue merge few plain --catalogue all
@@ -103,10 +119,17 @@ CALLS = {
         verify full.before archive --quiet --jobs 1
         verify full.before archive --quiet --json
         verify full.before archive --quiet --list damaged --state state
-        verify full --quiet --evidence sums --debug --limit 50
-        verify full --quiet --evidence sums.hashdeep --form hashdeep
         verify full --quiet --evidence sums.bagit --form bagit --json
+        index one/odd --catalogue odd --pixels --jobs 1 --quiet
+            verify odd --quiet --evidence sums --debug --limit 50
+            verify odd --quiet --evidence sums.hashdeep --form hashdeep
+        verify few --quiet --evidence sums.hashdeep --form hashdeep
+        index sack/data --catalogue bagged --pixels --jobs 1 --quiet
+            verify bagged --quiet --evidence sack/manifest --form bagit
         verify --bag bag --quiet
+        verify --bag twice --quiet
+        verify --bag outside --quiet
+        verify --bag one --quiet
         verify full --files-from some --quiet
         verify full --files-from some0 -0 --quiet
         verify plain --quiet
@@ -127,6 +150,8 @@ CALLS = {
         same full --files-from some
         same full --files-from some0 -0 --csv --columns title
         same full --xlsx same.xlsx
+        index archive/formats --catalogue formats --pixels --jobs 1 --quiet
+            same formats --kind pixels
         same archive
         same
         same nowhere
@@ -163,6 +188,15 @@ CALLS = {
         changed one/desk archive/copies --match stem
         changed edits/before edits/after --jobs 1 --quiet
         changed edits/before edits/after --jobs 1 --quiet --each
+        changed edits/before edits/after --jobs 1 --quiet --json
+        changed edits/before edits/after --jobs 1 --quiet --csv --ignore 'IFD0:*'
+        changed edits/before edits/after --jobs 1 --quiet --edit 2 --edit 3
+        changed edits/before edits/after --jobs 1 --quiet --undo undo.args
+        changed edits/masters edits/web --match stem --jobs 1 --quiet
+        changed edits/masters edits/web --match stem --jobs 1 --quiet --csv
+        changed edits/web edits/masters --match stem --jobs 1 --quiet --json
+        changed edits/values edits/later --jobs 1 --quiet --each
+        changed edits/values edits/later --jobs 1 --quiet --equal-numbers --only 'GPS*' --only ISO
         changed full.before full --edit 2
         changed full.before full --edit 99 --json
         changed --picture archive/work/retitled.jpg full.before full
@@ -225,6 +259,22 @@ CALLS = {
         list plain --columns Sharpnes
         list full --xlsx list.xlsx
         list
+        index edits/values edits/later --catalogue pages --jobs 1 --sidecars --quiet
+            list pages --where 'GPSLatitude > 50 or GPSLatitude < -30' --columns GPS:GPSLatitude,position
+            list pages --where 'ExposureTime = 1/125 and not (ISO = 200 or FNumber > 999)' --columns ExposureTime,Orientation --csv
+            list pages --where 'Orientation = upright or Flash like "fired*"' --columns IFD0:Orientation,Flash --json
+            list pages --where 'Exif.Photo.LightSource = daylight or XMP:Rating <= -1' --columns XMP-xmp:Rating
+            list pages --where 'DateTimeOriginal >= 2008-07 and date created < 2009' --columns 'date created'
+            list pages --where 'date created = impossible or creator is Otto or keywords one of salt, Otto' --columns creator,keywords
+            list pages --where 'GPSTimeStamp = 10:38:11 and dc:source has 6' --columns GPSTimeStamp
+            list pages --where 'title like "Z?rich" and copyright != Otto or position = "51.5, 33.20"' --columns title,copyright
+            list pages --where '((title = a or (title = b' --columns title
+            list pages --where 'title == a'
+            list pages --where 'title = "a'
+            list pages --where 'ISO = many'
+            list pages --count LightSource
+            list pages --geojson
+            check pages --all
     """,
     "check": """
         check --rules rules plain
@@ -240,6 +290,8 @@ CALLS = {
         check full --rules but-creator
         check full --rules creators --csv
         check archive/contradictions archive/texts --json --limit 50 --whole --debug
+        check edits/spoiled --all --jobs 1 --quiet
+        check edits/spoiled --json --jobs 1 --quiet
         check --files-from some
         check --files-from some0 -0 --all
         check full --xlsx conflicts.xlsx
@@ -253,6 +305,8 @@ CALLS = {
         nightly archive --catalogue night2 --exclude odd --maker-notes --sidecars --pixels --whole --limit 50 --debug --json
         nightly archive --catalogue before --html letter.html --jobs 1 --json
         nightly archive --catalogue full.before --html letter/ --jobs 1 --nights 1
+        nightly archive --catalogue full.before --html letter.html --rules rules --jobs 1
+        nightly archive --catalogue full.before --jobs 1 --json
         nightly one new
         nightly nowhere
         nightly nowhere new
@@ -281,6 +335,8 @@ CALLS = {
         show --captions --files-from some0 -0
         show --captions --files-from some --csv
         show --captions archive/work/retitled.jpg --xlsx captions.xlsx
+        show edits/values/pages.tif --exact
+        show --captions edits/values/pages.tif
     """,
     "explain": """
         explain one/refused/Overlap.jpg one/refused/NoMarker.jpg one/refused/Loop.jpg
@@ -299,6 +355,7 @@ CALLS = {
         report full --html page.html --ignore IFD0:Artist --ignore @fields
         report full --only @fields --equal-numbers --since full.before --html page.html --files-from some
         report full --files-from some0 -0 --html page.html --rules rules
+        report few --html page.html
         report --html page.html
         report few --html one
         report few --html some
@@ -340,6 +397,12 @@ CALLS = {
         mend archive/states/cut-in-its-head.jpg mended6.jpg --json
         mend one mended7
         mend --files-from doubled mended
+        index edits/values --catalogue values --jobs 1 --quiet
+            mend values mended --json
+            index mended --catalogue mended.catalogue --jobs 1
+        mend edits/values/unsorted.webp mended.webp --no-programs
+            show mended.webp --exact --no-programs
+        explain edits/values/two.jpg --no-programs
     """,
 }
 # What a page runs, or loads from elsewhere, or leads to
@@ -361,12 +424,27 @@ def lines_of(command):
     return [line for chain in chains_of(command) for line in chain]
 
 
+def written(folder, line):
+    """The lines of the text files that a call writes."""
+    for path in (folder / name for name in WRITTEN if name in line.split()):
+        if path.exists():
+            text = path.read_text(encoding="utf-8", errors="backslashreplace")
+            yield from (f"({path.name}) {it}" for it in (texts_of_page(text) if path.suffix == ".html" else text.splitlines()))
+
+
+def texts_of_page(text):
+    """The texts of a page, in its order, but for the version of the library that is tested."""
+    body = re.sub(r"(?s)<(script|style).*?</\1>", "", text)
+    texts = (" ".join(html.unescape(it).split()) for it in re.split(r"<[^>]+>", body))
+    return [it for it in texts if it and not it.startswith("Results of exifnorm")]
+
+
 def transcript(line, folder):
     """A call with what it prints and its status."""
     status, printed, messages = run(line, folder)
     progress = re.compile(r"[\d,]+ of (at least )?[\d,]+ pictures")
     messages = [f"(stderr) {message}" for message in messages if "--quiet" in line or not progress.match(message)]
-    lines = [f"$ exifnorm-pictures {line}", *printed, *messages, f"(status {status})", ""]
+    lines = [f"$ exifnorm-pictures {line}", *printed, *messages, f"(status {status})", *written(folder, line), ""]
     text = "\n".join(lines).replace(str(folder), "F").replace(os.fsencode(folder).hex(), "F".encode().hex())
     text = re.sub(r', "unproved": \["[^"]*"\]', "", text)  # of a quick build
     return text.replace("\0", "\\0\n")
@@ -376,9 +454,11 @@ def transcript(line, folder):
 @pytest.mark.parametrize("command, chain", [pytest.param(it, chain, id=chain[0]) for it in CALLS for chain in chains_of(it)])
 def test_what_a_command_prints(command, chain, museum, golden):
     for name, text in LISTS.items():
+        (museum / name).parent.mkdir(exist_ok=True)
         (museum / name).write_text(text, encoding="utf-8")
     (museum / "some0").write_text(LISTS["some"].replace("\n", "\0"), encoding="utf-8")
     shutil.copytree("one/desk", "moved", dirs_exist_ok=True)
+    shutil.copytree("bag", "sack", dirs_exist_ok=True)
     os.symlink("few", "link")
     os.makedirs("mended", exist_ok=True)
     heads = [f"$ exifnorm-pictures {line}\n" for line in lines_of(command)]
@@ -393,8 +473,8 @@ def cell(column, value):
 
 @needs("exiftool", "exiv2")
 def test_all_rows_of_pictures_and_blocks(museum, golden):
-    """What is known of each picture and block: its state, cause, place, repair and what was not read."""
-    run("catalogue export full rows --quiet --no-look", museum)
+    """What is known of each picture and block: its state, cause, place, repair and what was not read. Of fields and texts each row once."""
+    run("catalogue export full rows --quiet", museum)
     with contextlib.closing(sqlite3.connect("rows")) as base:
         lines = []
         for table in ("pictures", "blocks"):
@@ -402,7 +482,17 @@ def test_all_rows_of_pictures_and_blocks(museum, golden):
             names = [column[0] for column in rows.description]
             lines += [f"{table}: {', '.join(names)}"]
             lines += sorted("  " + ", ".join(map(cell, names, row)) for row in rows)
-    golden("museum/rows.txt", "\n".join(lines).replace(str(museum), "F") + "\n")
+        golden("museum/rows.txt", "\n".join(lines).replace(str(museum), "F") + "\n")
+        lines = []
+        for table in ("fields", "captions", "maker_notes", "conflicts", "not_read", "groups"):
+            rows = base.execute(f"SELECT * FROM {table}")
+            names = [column[0] for column in rows.description]
+            kept = [at for at, name in enumerate(names) if name not in ("picture", "block", "number", "digest")]
+            lines += [
+                f"{table}: {', '.join(names[at] for at in kept)}",
+                *sorted({"  " + ", ".join(cell("", row[at]) for at in kept) for row in rows}),
+            ]
+        golden("museum/rows-of-fields.txt", "\n".join(lines).replace(str(museum), "F") + "\n")
 
 
 @needs("exiftool", "exiv2")
@@ -418,21 +508,31 @@ def test_texts_that_a_catalogue_keeps(museum, golden):
     golden(f"museum/texts-of-version-{VERSION}.txt", "\n".join(lines) + "\n")
 
 
+def put_edited(folder):
+    """A folder with the pictures that are edited by themselves, and catalogues of it then and now."""
+    for night, words in (("before", ""), ("after", "--keep-old edited.before")):
+        shutil.rmtree("edited", ignore_errors=True)
+        shutil.copytree(f"edits/{night}/words", "edited")
+        done(f"index edited --catalogue edited.now --pixels --jobs 1 --quiet {words}", folder)
+
+
 @needs("exiftool", "exiv2", "PIL")
-def test_what_a_page_says(museum, golden):
+@pytest.mark.parametrize("catalogues, name", [("full --since full.before", "page"), ("edited.now --since edited.before", "page-of-edits")])
+def test_what_a_page_says(catalogues, name, museum, golden):
     """The texts of a report: its contents with their counts, and each list."""
     (museum / "rules").write_text(RULES, encoding="utf-8")
-    run("report full --since full.before --rules rules --html page.html --title 'One & two'", museum)
-    html = (museum / "page.html").read_text(encoding="utf-8")
-    page = Text(html)
-    assert "<h1>One &amp; two</h1>" in html
-    assert (page.wrong, page.open, OUTSIDE.findall(without_own_script(html))) == ([], [], [])
+    put_edited(museum)
+    run(f"report {catalogues} --rules rules --html page.html --title 'One & two'", museum)
+    source = (museum / "page.html").read_text(encoding="utf-8")
+    page = Text(source)
+    assert "<h1>One &amp; two</h1>" in source
+    assert (page.wrong, page.open, OUTSIDE.findall(without_own_script(source))) == ([], [], [])
     lines = []
-    for name, texts in {"contents": page.found["nav"], **page.sections, "footer": page.found["footer"]}.items():
-        lines += ["", f"[{name}]", *filter(None, (" ".join(it.split()) for it in " ".join(texts).split("\n")))] if name else []
+    for part, texts in {"contents": page.found["nav"], **page.sections, "footer": page.found["footer"]}.items():
+        lines += ["", f"[{part}]", *filter(None, (" ".join(it.split()) for it in " ".join(texts).split("\n")))] if part else []
     lines += ["", "[classes, which the colours are for]"]
-    lines += [f"{name}: {count}" for name, count in sorted(collections.Counter(re.findall(r' class="([^"]*)"', html)).items())]
-    golden("museum/page.txt", "\n".join(lines[1:]).replace(str(museum), "F") + "\n")
+    lines += [f"{it}: {count}" for it, count in sorted(collections.Counter(re.findall(r' class="([^"]*)"', source)).items())]
+    golden(f"museum/{name}.txt", "\n".join(lines[1:]).replace(str(museum), "F") + "\n")
 
 
 def options_of(command):

@@ -3,6 +3,7 @@
 import collections
 import contextlib
 import csv
+import io
 import itertools
 import json
 import os
@@ -11,8 +12,10 @@ import random
 import re
 import shutil
 import sqlite3
+import stat
 import time
 
+import openpyxl
 import pytest
 from made_museum import TIME, captioned, put
 from museum import WHOLE, done, run
@@ -243,7 +246,7 @@ def test_each_number_agrees_with_its_noun():
     """In all that commands print of the museum: 1 picture, and 2 pictures."""
     nouns = "|".join(NOUNS)
     wrong = re.compile(rf"(?<![\w.,:/-])(?:1 (?:{nouns})s|(?:0|[2-9]|[\d,]*\d\d) (?:{nouns}))(?![\w-])")
-    lines = [line for path in sorted(GOLDEN.iterdir()) for line in path.read_text(encoding="utf-8", errors="replace").splitlines()]
+    lines = [line for path in sorted(GOLDEN.rglob("*.txt")) for line in path.read_text(encoding="utf-8", errors="replace").splitlines()]
     assert len(lines) > 1000 and not [line for line in lines if wrong.search(line)]
 
 
@@ -303,3 +306,86 @@ def test_an_edit_that_keeps_the_size_and_the_time_is_noticed(museum, monkeypatch
         file.write(captioned(155, title="A jug"))
     os.utime("two/second.jpg", (TIME, TIME))
     assert run("same new", museum)[1][1].endswith("because its files are gone or have changed since they were indexed")
+
+
+# Calls that write a catalogue, each after those before it
+WRITES = """
+    index one/desk archive/work --catalogue few --again --jobs 1 --quiet
+    catalogue forget full archive/desk archive/refused --files-from some
+    catalogue merge few plain --catalogue merged
+    index archive --catalogue before --jobs 1 --quiet --keep-old kept
+    catalogue relocate few archive/work moved
+    index archive/work archive/texts --shards parts --jobs 1 --quiet
+"""
+
+
+@needs("exiftool")
+def test_a_catalogue_that_was_written_is_whole(museum):
+    """By SQLite's own checks: no row belongs to a picture that is gone, each index has all rows, and each page of the file is in use once."""
+    (museum / "some").write_text("archive/states/rots.jpg\n", encoding="utf-8")
+    shutil.copytree("archive/work", "moved")
+    for line in WRITES.strip().splitlines():
+        done(line.strip(), museum)
+    names = ["few", "full", "merged", "before", "kept", *map(str, pathlib.Path("parts").glob("**/*.catalogue"))]
+    for name in names:
+        with contextlib.closing(sqlite3.connect(name)) as base:
+            found = [*base.execute("PRAGMA foreign_key_check"), *base.execute("PRAGMA integrity_check")]
+        assert found == [("ok",)], (name, found)
+
+
+# Calls that make a file of a catalogue, and the file
+MADE = {
+    "index one/desk --catalogue few --keep-old made --jobs 1 --quiet": "made",
+    "catalogue merge few few --catalogue made": "made",
+    "catalogue export few made.sqlite --quiet": "made.sqlite",
+    "report few --html made.html": "made.html",
+    "report few --html made/": "made/index.html",
+    "changed few few --undo made": "made",
+}
+
+
+@needs("exiftool")
+@pytest.mark.parametrize("mode", [0o600, 0o640, 0o664])
+def test_what_is_made_allows_no_more_than_its_catalogue(mode, museum):
+    """To the group and to others."""
+    os.chmod("few", mode)
+    found = {}
+    for line, name in MADE.items():
+        run(line, museum)
+        path = pathlib.Path(name)
+        if path.exists():
+            found[line] = oct(stat.S_IMODE(path.stat().st_mode) & 0o077 & ~mode)
+            shutil.rmtree("made") if path.parent.name == "made" else path.unlink()
+    assert len(found) > 5 and set(found.values()) == {"0o0"}, found
+
+
+@pytest.mark.parametrize(
+    "line",
+    [
+        "same full",
+        "changed full.before full",
+        "compare one/work/retitled.jpg archive/work/retitled.jpg",
+        "list full --columns title,creator",
+    ]
+    + [
+        "check --rules rules full",
+        "check full",
+        "show archive/texts/structures.jpg archive/formats/jpg.jpg",
+        "show --captions archive/texts/*.jpg",
+    ],
+)
+def test_a_workbook_has_the_cells_of_csv(line, museum):
+    """Numbers are cells of numbers."""
+    (museum / "rules").write_text("every picture needs creator, copyright\n", encoding="utf-8")
+    rows = list(csv.reader(io.StringIO("\n".join(run(f"{line} --csv", museum)[1]))))
+    run(f"{line} --xlsx made.xlsx", museum)
+    book = openpyxl.load_workbook("made.xlsx", read_only=True)
+    cells = [["" if it is None else str(it) for it in row] for row in book.active.iter_rows(values_only=True)]
+    assert len(rows) > 2 and [row[: len(rows[0])] for row in cells] == rows
+
+
+def test_a_journal_that_names_another_file_is_not_rolled_back(museum):
+    """SQLite would remove the file that it names (its file format, "The Rollback Journal")."""
+    (museum / "few-journal").write_bytes(bytes(100) + bytes.fromhex("d9d505f920a163d7"))
+    status, _, messages = run("index one/desk --catalogue few --jobs 1 --quiet", museum)
+    assert status == 4 and "names another file" in messages[-1], messages

@@ -5,7 +5,7 @@ import os
 import pytest
 
 from exifnorm_pictures.catalogue.store import Catalogue
-from exifnorm_pictures.files import mounts
+from exifnorm_pictures.catalogue import store
 
 # Lines as Linux writes them (proc(5)), with and without the optional words before the hyphen
 LOCAL = "25 1 0:9999 / /a\\040disk rw,relatime - ext4 /dev/sda1 rw\n"
@@ -20,7 +20,7 @@ def listed(folder, monkeypatch):
         device = os.stat(folder).st_dev
         line = f"99 1 {os.major(device)}:{os.minor(device)} /export /mnt rw {words}- {kind} server:/export rw\n"
         (folder / "mounts").write_text(LOCAL + SHARE + line)
-        monkeypatch.setattr(mounts, "MOUNTS", str(folder / "mounts"))
+        monkeypatch.setattr(store, "MOUNTS", str(folder / "mounts"))
 
     return make
 
@@ -51,15 +51,15 @@ def test_a_link_to_a_share(folder, listed):
     """The folder counts in which the catalogue is, not the one with the link."""
     (folder / "c").symlink_to("/proc/nothing")
     listed("nfs4")
-    assert not mounts.is_on_network(str(folder / "c"))
-    assert mounts.is_on_network(str(folder / "other"))
+    assert not store.is_on_network(str(folder / "c"))
+    assert store.is_on_network(str(folder / "other"))
 
 
 @pytest.mark.parametrize("text", ["", "\n", "no list\n", "36 25\n"])
 def test_what_is_no_list(folder, monkeypatch, text):
     (folder / "mounts").write_text(text)
     for name in ("mounts", "nothing"):
-        monkeypatch.setattr(mounts, "MOUNTS", str(folder / name))
+        monkeypatch.setattr(store, "MOUNTS", str(folder / name))
         assert journal_of(folder / "c") == ("wal", True)
 
 

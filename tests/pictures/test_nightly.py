@@ -15,17 +15,21 @@ from contextlib import closing
 
 import pytest
 import test_cr3
+from made_blocks import BLOCKS
 from made_boxes import cr3
-from made_files import app1, app1_xmp, app13, exif, jpeg, resource, xmp
+from made_files import app1, app13, app1_xmp, exif, jpeg, resource, xmp
 from studio import SMALL_JPEG, TOP, Studio, needs, put, read
 from test_list import record
 
-from exifnorm_pictures.comparison.nightly import news as news_
 from exifnorm_pictures.catalogue import nights
 from exifnorm_pictures.catalogue.store import Catalogue
-from exifnorm_pictures.cli.commands.nightly import letter as letter_of
 from exifnorm_pictures.cli.commands import nightly
-from exifnorm_pictures.comparison.nightly.news import Kind, Named, News
+from exifnorm_pictures.cli.commands.nightly import letter as letter_of
+from exifnorm_pictures.comparison.nightly import news as news_
+from exifnorm_pictures.comparison.nightly.news import Kind, News
+from exifnorm_pictures.extract import programs
+from exifnorm_pictures.scan import looking
+from exifnorm_pictures.report import book
 
 # A raw file whose directory is cut, from which exiv2 extracts nothing
 CUT = b"IIRO\x08\0\0\0\xff\xff" + bytes(30)
@@ -404,7 +408,7 @@ def test_a_letter_fits_a_page(seed):
     news = []
     for kind in Kind:
         for number in range(rng.choice((0, 1, 1, 3, 9, 60))):
-            named = [Named(rng.choice(names), rng.choice((None, *names))) for _ in range(rng.randrange(1, 4))]
+            named = [(rng.choice(names), rng.choice((None, *names))) for _ in range(rng.randrange(1, 4))]
             about = rng.choice(("copyright", "line 3: " + "title like x " * 20, "京" * 90, ""))
             news.append(News(kind, f"{about}{number}", rng.choice((1, 3, 200_000)), named))
     printed = list(letter_of("h" * rng.choice((10, 90)), news, ["end"] * rng.choice((0, 4))))
@@ -431,8 +435,6 @@ def test_a_folder_of_pages(archive, called, folder):
 
 def test_too_many_files_for_one_page(archive, called, monkeypatch):
     """The letter is printed all the same, and a note names the folder of pages, which can then be written."""
-    from exifnorm_pictures.report import book
-
     monkeypatch.setattr(book, "MOST_OF_A_PAGE", len(NAMES) - 1)
     words = ("nightly", "p", "--catalogue", "c.catalogue", "--html")
     status, printed, messages = called(*words, "page.html")
@@ -560,3 +562,52 @@ def test_catalogues_of_several_days(has_links, archive, called, monkeypatch):
     assert (archive.parent / "c.catalogue.2001-01-01").read_bytes() == b"a diary"
     (archive.parent / "c.catalogue.2026-11-33").write_bytes(b"a diary")
     assert night(33)[0] == 4 and "a file of another kind" in night(33)[2]
+
+
+# ---- A night in which nothing happened ends with 0, whatever an archive has that can't be read or compared wholly.
+
+PICTURE, REFUSED, UNREADABLE = jpeg(app1(exif(b"abc"))), jpeg(app1(BLOCKS["Overlap"])), jpeg(app1_xmp(b"<x"))
+
+
+@pytest.fixture
+def failing_archive(folder, monkeypatch):
+    """Pictures; one of which a part is never read; and five at which a program fails."""
+    put(folder / "p", {"a.jpg": PICTURE, "b.jpg": REFUSED, "c.jpg": UNREADABLE, "d.jpg": PICTURE + b"trailer"})
+    put(folder / "p", {f"failing{it}.jpg": PICTURE + bytes([it]) for it in range(5)})
+    read = looking._read
+
+    def fails(it, how, *more):
+        if b"failing" in it.path:
+            raise programs.Failed("exiv2 ended with status 1")
+        blocks, judged = read(it, how, *more)
+        if it.path.endswith(b"d.jpg"):
+            blocks.not_read[:] = [part._replace(digest="") for part in blocks.not_read]  # as a track of a CR3
+        return blocks, judged
+
+    monkeypatch.setattr(looking, "_read", fails)
+    return folder / "p"
+
+
+def test_nightly(failing_archive, called):
+    """The first run rings; the second one only for what is new; and nothing has changed between them."""
+    index = ["index", "p", "--catalogue", "c", "--keep-old", "last"]
+    status, printed, _ = called("index", "p", "--catalogue", "c")
+    assert status == 2 and printed.count("exiv2 ended with status 1") == 5 and "5 at which a program failed" in printed
+    status, printed, _ = called(*index)
+    assert status == 0 and "exiv2 ended" not in printed and "5 at which a program failed as before" in printed and "4 unchanged" in printed
+    status, printed, _ = called("changed", "last", "c")
+    assert status == 0 and printed.startswith("9 pictures compared: none changed."), printed
+    assert "6 the same file" in printed
+    shutil.copy(failing_archive / "failing0.jpg", failing_archive / "failing5.jpg")
+    status, printed, _ = called(*index)
+    assert (
+        status == 2
+        and printed.count("exiv2 ended") == 1
+        and "5 at which a program failed as before" in printed
+        and "1 at which a program failed" in printed
+    )
+
+
+def test_one_catalogue_with_itself(failing_archive, called):
+    called("index", "p", "--catalogue", "c", "--quiet")
+    assert called("changed", "c", "c")[0] == 0

@@ -2,19 +2,24 @@
 
 import argparse
 import importlib
+import json
+import os
+import select
 import shutil
+import subprocess
+import sys
 
 import pytest
 from made_blocks import block, entry
-from made_files import A, app1, jpeg
+from made_files import A, app1, exif, jpeg
 from meanings import ASCII, UNDEFINED
-from studio import TOP, put
+from studio import SMALL_JPEG, TOP, put
 
 from exifnorm_pictures.cli import parser
 from exifnorm_pictures.cli.options import Fields, Files, Least, Output, Run
 from exifnorm_pictures.files.session import Session
 from exifnorm_pictures.model import budgets
-from exifnorm_pictures.scan import batches
+from exifnorm_pictures.scan import walk
 
 BOWL, PHONE = f"{TOP}/samples/before/ceramics/2003-12-bowl.jpg", f"{TOP}/samples/before/arrivals/IMG_20240502.jpg"
 LISTED = ("--files-from", "list", "-0")
@@ -125,8 +130,8 @@ def test_each_byte_is_read_by_each_command(command, option, archive, called, mon
 
 @pytest.mark.parametrize("command, option", HOWS)
 def test_how_each_command_looks_at_pictures(command, option, archive, called, monkeypatch):
-    hows, how = [], batches.How.__new__
-    monkeypatch.setattr(batches.How, "__new__", lambda *given, **more: hows.append(how(*given, **more)) or hows[-1])
+    hows, how = [], walk.How.__new__
+    monkeypatch.setattr(walk.How, "__new__", lambda *given, **more: hows.append(how(*given, **more)) or hows[-1])
     words = [it for it in {"index": ("p", "--catalogue", "other"), "check": OF_CHECK}.get(command, COMMANDS[command]) if it not in LISTED]
     called(*command.split(), *words, option, *(["3"] * (option == "--jobs")))
     assert {getattr(it, option[2:]) for it in hows} >= {3 if option == "--jobs" else True}
@@ -196,3 +201,132 @@ def test_no_program_is_started(command, option, archive, called, monkeypatch):
         (archive / path).unlink(missing_ok=True)
     called(*command.split(), *words)
     assert bool(started) == (command != "catalogue export"), "with a catalogue of pictures that were read"
+
+
+# ---- Commands that get names on standard input answer each before they read the next: a program can keep one open.
+
+NAMES = [f"samples/before/{it}" for it in ("ceramics/1998-7-vase.jpg", "arrivals/IMG_20240502.jpg", "ceramics/2003-12-bowl.jpg")]
+PATIENCE = 60  # seconds; a busy machine needs a few
+
+
+@pytest.fixture
+def opened():
+    """Starts a command that reads names."""
+    running = []
+
+    def start(*words, end=b"\n"):
+        process = subprocess.Popen(
+            [sys.executable, "-m", "exifnorm_pictures", *words, "--files-from", "-", *(["-0"] if end == b"\0" else [])],
+            stdin=subprocess.PIPE,
+            stdout=subprocess.PIPE,
+            env={**os.environ, "PYTHONPATH": f"{TOP}/python"},
+            cwd=TOP,
+            bufsize=0,
+        )
+        running.append(process)
+        return process
+
+    yield start
+    for process in running:
+        process.kill()
+        process.wait()
+        process.stdin.close()
+        process.stdout.close()
+
+
+def answered(process, name, wanted, end=b"\n"):
+    """What a command prints for a name, up to a line with some bytes."""
+    process.stdin.write(os.fsencode(name) + end)
+    printed = b""
+    while wanted not in printed or not printed.endswith(b"\n"):  # a read can end within a line
+        assert select.select([process.stdout], [], [], PATIENCE)[0], f"no answer to {name} while more names may come; so far: {printed!r}"
+        piece = process.stdout.read(1 << 16)
+        assert piece, f"ended with {process.wait()} after {printed!r}"
+        printed += piece
+    return printed
+
+
+def answers(command):
+    """Whether a command does something with each picture that is named."""
+    arguments = {action.dest for action in command._actions}
+    return {"files_from", "names"} <= arguments and "source" not in arguments
+
+
+ANSWER = [name for name, command in parser.parsers()[1].items() if answers(command)]
+
+
+@pytest.mark.parametrize("end", [b"\n", b"\0"], ids=["lines", "NUL"])
+@pytest.mark.parametrize("command", ANSWER)
+def test_an_object_for_each_name(opened, command, end, tmp_path):
+    """Whatever the picture is, also if it is asked for again: a program that waits for the answer would wait for ever."""
+    (tmp_path / "text.jpg").write_text("no picture")
+    (tmp_path / "plain.jpg").write_bytes(SMALL_JPEG)
+    (tmp_path / "cut.jpg").write_bytes(SMALL_JPEG[:15])
+    (tmp_path / "out").mkdir()
+    process = opened(command, "--json", *([str(tmp_path / "out")] if command == "mend" else []), end=end)
+    names = [*NAMES, *map(str, sorted(tmp_path.glob("*.jpg"))), "nowhere.jpg", NAMES[0]]
+    for at, name in enumerate(names):
+        lines = answered(process, name, json.dumps(name).encode(), end).split(b"\n")[:-1]
+        paths = {json.loads(it)["path"] for it in lines}
+        assert name in paths and paths <= set(names[: at + 1])
+    process.stdin.close()
+    process.stdout.read()
+    assert process.wait() in (2, 4)
+
+
+@pytest.mark.parametrize(
+    "words",
+    [
+        ("show",),
+        ("show", "--exact"),
+        ("show", "--csv"),
+        ("show", "--captions"),
+        ("show", "--captions", "--csv"),
+        ("explain",),
+    ],
+    ids=" ".join,
+)
+def test_lines_for_each_name(opened, words):
+    process = opened(*words)
+    for name in NAMES:
+        assert os.fsencode(name) in answered(process, name, os.fsencode(name))
+
+
+def test_a_name_in_pieces_and_the_last_one_without_an_end(opened):
+    process = opened("show", "--json")
+    process.stdin.write(os.fsencode(NAMES[0])[:9])
+    assert json.loads(answered(process, NAMES[0][9:], b"\n"))["path"] == NAMES[0]
+    process.stdin.write(os.fsencode("\n\n" + NAMES[2]))
+    process.stdin.close()
+    assert json.loads(process.stdout.read())["path"] == NAMES[2]
+
+
+# ---- Answers to words that name no command or no picture: they name the command or the file that is meant.
+
+
+@pytest.fixture
+def pictures(folder):
+    put(folder / "p q", {"a.jpg": jpeg(app1(exif(b"abc")))})
+    return folder / "p q"
+
+
+@pytest.mark.parametrize("command", ("show", "explain"))
+def test_a_folder_where_pictures_are_expected(pictures, called, command):
+    """The words that are printed can be typed: they lead to the same pictures."""
+    status, printed, _ = called(*command.split(), "p q")
+    assert (
+        status == 2
+        and "show --captions, check and index take folders" in printed
+        and f"{command} takes pictures, such as 'p q'/*" in printed
+    )
+    assert called(*command.split(), "p q", "--json")[1].count("NotAFile") == 1
+
+
+def test_help(called, capsys):
+    for words, usage in ((["help"], "usage: exifnorm-pictures [-h]"), (["help", "mend"], "usage: exifnorm-pictures mend [")):
+        with pytest.raises(SystemExit) as ended:
+            called(*words)
+        assert ended.value.code == 0 and capsys.readouterr().out.startswith(usage)
+    with pytest.raises(SystemExit) as ended:
+        called("help", "nothing")
+    assert ended.value.code == 3

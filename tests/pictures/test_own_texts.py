@@ -5,9 +5,9 @@ import csv
 import json
 
 import pytest
-from made_files import app1, app1_xmp, exif, jpeg, xmp
+from made_files import app1, app1_xmp, data_set, exif, jpeg, with_record, with_texts, xmp
 from studio import sql_rows
-from test_captions import data_set, with_record, with_texts
+
 
 from exifnorm_pictures.fields.labels import is_own
 

@@ -23,7 +23,7 @@ from exifnorm_pictures.files.session import Session
 from exifnorm_pictures.model import budgets, rest
 from exifnorm_pictures.model.budgets import Budget, TooMuch
 from exifnorm_pictures.model.found import Broken
-from exifnorm_pictures.scan.batches import How
+from exifnorm_pictures.scan.walk import How
 
 A, T, K = exif(b"abc"), title("one"), iim(b"one")
 PATH, FLAG = resource(0x07D0, bytes(26)), resource(0x040A, b"\1")
@@ -264,10 +264,9 @@ def test_lengths_of_what_is_not_whole(folder, called):
     assert notes == {"a": ("not known", False, False), "b": ("other parts, the same metadata", False, True), "c": ("same", False, False)}
 
 
-def test_parts_that_each_lacks(folder, called):
+def test_parts_that_each_lacks(called, indexed):
     """None may go, and each says which parts it has or lacks."""
-    put(folder / "p", {"a": jpeg(app1(A), segment(0xFE, b"one")), "b": jpeg(app1(A), segment(0xEB, JUMBF)), "c": jpeg(app1(A))})
-    called("index", "p", "--catalogue", "c", "--quiet", "--pixels")
+    indexed({"a": jpeg(app1(A), segment(0xFE, b"one")), "b": jpeg(app1(A), segment(0xEB, JUMBF)), "c": jpeg(app1(A))}, "--pixels")
     rows = list(csv.DictReader(called("same", "c", "--csv")[1].splitlines()))
     assert [it["keep"] for it in rows] == ["1", "", "0"] and streams.CREDENTIALS in rows[1]["note"]
 

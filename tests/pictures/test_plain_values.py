@@ -17,6 +17,7 @@ from exifnorm_pictures.fields.names import _EXIF, _GPS, _IIM, _INTEROP, _TIFF, g
 from exifnorm_pictures.fields.plain_texts import comment
 from exifnorm_pictures.fields.plain_values import plain
 from exifnorm_pictures.fields.typed import value_of
+from exifnorm_pictures.cli import main
 
 
 def shown(where, key, kind, value):
@@ -118,7 +119,6 @@ def pictures(tmp_path_factory):
 @pytest.fixture
 def rows(pictures, capsys):
     """The rows that `compare` has for a picture without metadata and one of PICTURES, and what ExifTool prints of that."""
-    from exifnorm_pictures.cli import main
 
     def call(picture):
         (folder, printed), number = pictures, [*PICTURES].index(picture)

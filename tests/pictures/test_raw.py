@@ -30,6 +30,7 @@ from made_raw import (
 )
 from pairs import DIFFERENT, SAME, UNDECIDED, Pair, of_pairs
 from studio import needs, run, write
+from exifnorm_pictures.extract import extraction
 
 
 NOT_SAME = -1  # different, or not decided: ExifTool finds less in a damaged file
@@ -170,8 +171,6 @@ def tags_of(path):
 @pytest.mark.parametrize("kind", [*MAKERS, "srw", "profile"])
 def test_beside_exiftool(kind, tmp_path):
     """Each tag of Exif that ExifTool shows of a file, it also shows of one of the blocks."""
-    from exifnorm_pictures.extract import extraction
-
     octets = {**MAKERS, "srw": srw, "profile": lambda: dng(b"Anna", (0xC6F5, LONG, Placed(camera_profile())))}[kind]()
     name = tmp_path / f"picture.{'dng' if kind == 'profile' else kind}"
     write(name, octets)
@@ -188,8 +187,6 @@ def test_beside_exiftool(kind, tmp_path):
 @needs("exiftool")
 def test_numbers_of_head(tmp_path):
     """A file that only its first bytes or its first tag show to be raw is read in the same way under any name."""
-    from exifnorm_pictures.extract import extraction
-
     for kind in ("dng", "cr2", "orf", "rw2", "raf"):
         found = []
         for name in (f"a.{kind}", "a.tif"):

@@ -7,6 +7,7 @@ import shutil
 import pytest
 from made_files import app1, exif, jpeg, title
 from studio import put
+from exifnorm_pictures.scan import relocating
 
 FILES = {f"{name}.jpg": jpeg(app1(exif(name.encode() * 3))) for name in ("a", "b", "c")}
 AGES = 1_500_000_000
@@ -39,8 +40,6 @@ def summary(called):
 
 def test_a_copy_is_not_read_again(archive, folder, called, summary, monkeypatch):
     """Its inodes are others. Once the copy is older than a tick of the clock, nothing of it is read."""
-    from exifnorm_pictures.scan import relocating
-
     monkeypatch.setattr(relocating, "COARSE", 0)
     shutil.copytree(archive, folder / "q")
     assert summary("c", "p", "q") == (0, (4, 0, 0))
@@ -92,8 +91,6 @@ def test_a_folder_below_the_archive(archive, folder, called, summary):
 )
 def test_sidecars(name, octets, counts, read, archive, folder, called, summary, monkeypatch):
     """A picture whose sidecars are the same isn't read again; one with another sidecar is."""
-    from exifnorm_pictures.scan import relocating
-
     monkeypatch.setattr(relocating, "COARSE", 0)
     put(archive, {"a.jpg.xmp": title("a"), "b.xmp": title("b"), "monday/d.jpg.xmp": title("d")})
     aged(archive)

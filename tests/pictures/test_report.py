@@ -1,13 +1,21 @@
 """The report, as a reader of HTML and a browser on a phone have it."""
 
+import json
 import os
 import re
-import shutil
+import sys
+from html import unescape
 from html.parser import HTMLParser
-from urllib.parse import unquote_to_bytes
+from pathlib import Path
+from typing import Any, Callable
 
-from made_blocks import BLOCKS, MAKE, MODEL, block, with_exif, with_iptc
-from studio import SMALL_JPEG, WithPictures, needs, read, run, write
+import pytest
+from made_blocks import BLOCKS, MAKE, MODEL, block, with_exif
+from made_files import app1, app1_xmp, data_set, jpeg, with_record, with_texts, xmp
+from studio import SMALL_JPEG
+from test_captions import CREATOR, LONG_NAME
+
+from exifnorm_pictures.report import contents
 
 GROUPS, REFUSED, CHANGED = {"One\0": 5, "Two\0": 3, "Ten\0": 2}, 4, 6
 
@@ -56,59 +64,103 @@ class Text(HTMLParser):
         return [it.strip() for it in self.found.get(name, []) if it.strip()]
 
 
-class Report(WithPictures):
-    def setUp(self):
-        super().setUp()
-        os.mkdir(self.path("p"))
-        for maker, count in GROUPS.items():
-            for number in range(count):
-                write(self.path("p", f"{maker[:3]}{number}.jpg"), picture(maker.encode()))
-        for number in range(REFUSED):
-            octets = with_exif(SMALL_JPEG, BLOCKS["Overlap"])
-            write(self.path("p", f"refused{number}.jpg"), with_iptc(octets, b"\x1c\x02\x78\0\x01%d" % number))
-        for number in range(CHANGED):
-            write(self.path("p", f"changed{number}.jpg"), picture(b"Old\0", b"M%02d\0" % number))
-        write(self.path("p", "alone.jpg"), picture(b"Alo\0"))
-        self.asked("index", "p", "--catalogue", "old", "--quiet")
-        for number in range(CHANGED):
-            write(self.path("p", f"changed{number}.jpg"), picture(b"New\0", b"M%02d\0" % number))
-        write(self.path("p", "alone.jpg"), picture(b"<b>\0"))
-        os.remove(self.path("p", "Ten1.jpg"))
-        write(self.path("p", "added.jpg"), picture(b"Add\0"))
-        self.asked("index", "p", "--catalogue", "c", "--quiet")
-        self.asked("report", "c", "--since", "old", "--html", "r.html", "--title", "The <title>")
-        self.page = read(self.path("r.html")).decode()
+# ---- What a report lists, and in which order, as users of the command see it.
 
-    def test_each_picture_is_a_link_and_none_is_left_out(self):
-        """Of 23 pictures that are there each is in the list by folder, with what the other lists say of it, and each link leads to a file."""
-        page = Text(self.page)
-        files = {os.path.join(self.path("p"), it) for it in os.listdir(self.path("p"))}
-        linked = {self.path(os.fsdecode(unquote_to_bytes(it[2:]))) for it in page.links if it.startswith("./")}
-        self.assertEqual(linked, files, "one that is gone has no link")
-        self.assertEqual({it for it in page.texts("small") if it.endswith(".jpg")}, {os.path.basename(it) for it in files})
-        self.assertEqual(
-            [it for it in page.links if it.startswith("#") and not it.startswith("#find=") and f' id="{it[1:]}"' not in self.page],
-            [],
-            "they lead nowhere",
-        )
 
-    @needs("chromium")
-    def test_on_a_phone(self):
-        measure = "<script>document.title = document.documentElement.scrollWidth + ' of ' + document.documentElement.clientWidth</script>"
-        page = re.sub(r'<meta http-equiv="Content-Security-Policy"[^>]*>', "", self.page).replace("</body>", measure + "</body>")
-        page = page.replace("changed0.jpg", "a_very_long_name_without_any_space_" * 6 + ".jpg")
-        write(self.path("measured.html"), page.encode())
-        browser = [
-            shutil.which("chromium"),
-            "--headless",
-            "--no-sandbox",
-            "--disable-gpu",
-            f"--user-data-dir={self.path('b')}",
-            "--window-size=500,844",
-            "--dump-dom",
-        ]
-        seen = run([*browser, "file://" + self.path("measured.html")], self.folder, HOME=self.folder).stdout.decode()
-        found = re.search(r"<title>(\d+) of (\d+)</title>", seen)
-        self.assertIsNotNone(found, seen[:500])
-        self.assertLessEqual(int(found[1]), int(found[2]))
-        self.assertLessEqual(int(found[2]), 560, "the width at which the page is laid out for phones")
+def test_without_jinja2(folder: Path, called: Callable[..., Any], monkeypatch: pytest.MonkeyPatch) -> None:
+    """The message says what is missing, and no page is written."""
+    (folder / "p").mkdir()
+    (folder / "p" / "a.jpg").write_bytes(SMALL_JPEG)
+    called("index", "p", "--catalogue", "c", "--quiet")
+    monkeypatch.setitem(sys.modules, "jinja2", None)
+    status, _, messages = called("report", "c", "--html", "page.html")
+    assert status == 4 and "python3-jinja2" in messages and not (folder / "page.html").exists()
+
+
+def test_captions_are_compared_whole_and_listed_short(called, folder, monkeypatch) -> None:
+    """Two files with one picture, whose captions differ only behind what the page shows of them."""
+    monkeypatch.setattr(contents, "LONGEST", 10)
+    (folder / "p").mkdir()
+    for place in ("market", "harbour"):
+        texts = f"<dc:description><rdf:Alt><rdf:li xml:lang='x-default'>A view of the {place}</rdf:li></rdf:Alt></dc:description>"
+        (folder / "p" / f"{place}.jpg").write_bytes(jpeg(app1_xmp(xmp(texts))))
+    called("index", "p", "--catalogue", "c", "--quiet", "--pixels", "--jobs", "1")
+    assert called("report", "c", "--html", "page.html", "--no-look")[0] == 0
+    page = (folder / "page.html").read_text(encoding="utf-8").partition('<section id="captioned"')[2].partition("</section>")[0]
+    assert page.count(">A view of  ..<") == 2 and "view of the" not in page
+
+
+# ---- The report's section on contradictions: the pictures that `conflicts` lists, by the texts of the catalogue.
+
+LONG = "Ein Gefäß aus Köln, zerbrochen und geklebt. " * 20
+
+
+TITLE = "Gefäß, zerbrochen und wieder geklebt, Köln"  # of so many bytes in Latin-1 a catalogue keeps a digest
+
+
+def in_words(text):
+    return f"<rdf:Alt><rdf:li xml:lang='x-default'>{text}</rdf:li></rdf:Alt>"
+
+
+def captioned(text, packet):
+    described = f"<dc:description>{in_words(packet)}</dc:description>"
+    return jpeg(with_record(data_set(120, text.encode("latin-1"))), app1_xmp(xmp(described)))
+
+
+PICTURES = {
+    "different": jpeg(with_texts(artist=b"Anna"), with_record(data_set(80, b"Otto"), data_set(116, b"Museum"))),
+    "two": jpeg(with_texts(artist=b"A", copyright=b"B"), with_record(data_set(80, b"Otto"), data_set(116, b"Museum"))),
+    "cut": jpeg(with_record(data_set(80, LONG_NAME[:32].encode())), CREATOR),
+    "long": captioned(LONG, LONG + "Neu."),
+    "long and equal": captioned(LONG, LONG),
+    "one standard": jpeg(with_texts(artist=b"Anna")),
+    "refused": jpeg(app1(BLOCKS["UnknownKind"]), with_record(data_set(80, b"Otto"))),
+    "latin": jpeg(with_record(data_set(5, TITLE.encode("latin-1"))), app1_xmp(xmp(f"<dc:title>{in_words(TITLE)}</dc:title>"))),
+}
+
+
+@pytest.fixture
+def reported(folder, called):
+    """Runs commands in a folder with the pictures: what they print, and the section of the page."""
+    (folder / "p").mkdir()
+    for name, octets in PICTURES.items():
+        (folder / "p" / f"{name}.jpg").write_bytes(octets)
+
+    def run(*words):
+        return called(*words)[1]
+
+    def call(*words):
+        run("report", "c", "--html", "page.html", *words)
+        page = Path("page.html").read_text(encoding="utf-8")
+        return unescape(re.sub("<[^>]*>", " ", page.partition(">Contradictions</h2>")[2].partition("</section>")[0]))
+
+    run("index", "p", "--catalogue", "c", "--quiet")
+    call.run = run
+    return call
+
+
+def test_the_pictures_are_those_of_conflicts(reported):
+    found = [json.loads(it) for it in reported.run("check", "p", "--json").splitlines()]
+    expected = {os.path.basename(it["path"]): [one["label"] for one in it["conflicts"] if one["kind"] == "different"] for it in found[:-1]}
+    expected = {name: labels for name, labels in expected.items() if labels}
+    assert expected == {"different.jpg": ["creator"], "two.jpg": ["creator", "copyright"], "long.jpg": ["caption"]}
+    section = reported()
+    assert [name for name in (f"{it}.jpg" for it in PICTURES) if f" {name} " in section] == ["different.jpg", "two.jpg", "long.jpg"]
+    assert "Anna" in section and "Otto" in section and section.count(LONG.strip()) == 2 and "Neu." in section, "long texts are whole"
+    assert "Of 7 pictures" in section and "3 contradict themselves" in section
+    assert "1 picture not wholly compared" in section, "the refused one"
+    assert "1 more picture with differences of form alone" in section
+
+
+def test_files_are_not_needed(reported):
+    """The catalogue has the texts, long ones too, in any character set."""
+    expected = reported("--no-look")
+    for name in PICTURES:
+        Path(f"p/{name}.jpg").unlink()
+    assert reported() == reported("--no-look") == expected
+
+
+def test_some_pictures(reported, folder):
+    (folder / "list").write_text("p/cut.jpg\np/one standard.jpg\n", encoding="utf-8")
+    section = reported("--files-from", "list")
+    assert "None in 1 picture with metadata in more than one" in section

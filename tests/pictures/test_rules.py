@@ -9,9 +9,8 @@ import re
 import unicodedata
 
 import pytest
-from made_files import app1, app1_xmp, jpeg, xmp
+from made_files import app1, app1_xmp, data_set, jpeg, with_record, with_texts, xmp
 from studio import put
-from test_captions import data_set, with_record, with_texts
 from test_list import DATASETS, picture
 
 TEXTS = (

@@ -9,18 +9,18 @@ from unittest import mock
 import pytest
 from made_files import app1, exif, jpeg, title
 from studio import needs, run, write
-from test_index_shards import archive, picture, rows
+from test_shards import folders, picture, rows
 from with_cluster import EXV, PATIENT, Task, WithCluster
 
 from exifnorm_pictures.catalogue import shards
 from exifnorm_pictures.catalogue.store import Catalogue
 from exifnorm_pictures.extract import programs
 from exifnorm_pictures.scan import shard_tasks
-from exifnorm_pictures.scan.batches import How
+from exifnorm_pictures.scan.walk import How
 from exifnorm_pictures.scan.parts import WrongFolder
 from exifnorm_pictures.scan.shard_tasks import TRIES, Parts
 
-__all__ = ["archive"]  # a fixture
+__all__ = ["folders"]  # a fixture
 KILLS = 10
 FOLDERS = 5
 FAR = "tcp://127.0.0.1:9"
@@ -105,47 +105,47 @@ class Killed(Exception):
 
 
 @pytest.fixture
-def indexed(archive):
+def indexed(folders):
     """Indexes the folder p on such a cluster: the outcome of each part, by its folder."""
 
     def call(near, patterns=()):
         with mock.patch.multiple(shard_tasks, create=True, distributed=near, KilledWorker=Killed, CommClosedError=Killed):
-            parts = Parts(FAR, str(archive / "shards"), False, How(), patterns)
-            planned = parts.planned([os.fsencode(archive / "p")])
+            parts = Parts(FAR, str(folders / "shards"), False, How(), patterns)
+            planned = parts.planned([os.fsencode(folders / "p")])
             outcomes = {os.path.basename(shard.part.folder): it for shard, it in parts.outcomes(planned, How(pixels=True, sidecars=True))}
         return planned, outcomes
 
     return call
 
 
-def test_no_name_of_a_picture_and_no_row_goes_through_the_client(archive, indexed):
+def test_no_name_of_a_picture_and_no_row_goes_through_the_client(folders, indexed):
     near = Near()
     _, outcomes = indexed(near)
     assert {name: dict(it.counts) for name, it in outcomes.items()} == {b"a": {"accepted": 2}, b"b": {"accepted": 2}, b"p": {"accepted": 1}}
-    assert len(rows(archive)) == 5
+    assert len(rows(folders)) == 5
     for octets in (*near.sent, *near.returned):
         assert b".jpg" not in octets and b"deep" not in octets
     assert max(map(len, near.returned[1:])) < 400, "counts of a part"
 
 
-def test_sidecars_are_read_by_workers(archive, indexed):
-    (archive / "p" / "b" / "3.xmp").write_bytes(title("beside"))
+def test_sidecars_are_read_by_workers(folders, indexed):
+    (folders / "p" / "b" / "3.xmp").write_bytes(title("beside"))
     _, outcomes = indexed(Near())
     assert outcomes[b"b"].counts == {"accepted": 2}
-    with Catalogue(shards.shards_of(str(archive / "shards")).there[1]) as catalogue:
+    with Catalogue(shards.shards_of(str(folders / "shards")).there[1]) as catalogue:
         first = next(catalogue.pictures())
         assert catalogue.has_sidecars() and first.xmp and first.coded_picture is not None
 
 
-def test_few_parts_wait_for_each_worker(archive, indexed):
+def test_few_parts_wait_for_each_worker(folders, indexed):
     for number in range(30):
-        (archive / "p" / f"more{number}").mkdir()
+        (folders / "p" / f"more{number}").mkdir()
     near = Near(threads=2)
     indexed(near)
     assert max(near.waits) == 2 * shard_tasks.WAITING and len(near.sent) == 1 + 33
 
 
-def test_a_part_at_which_workers_die_is_tried_again(archive, indexed):
+def test_a_part_at_which_workers_die_is_tried_again(folders, indexed):
     """The first outcome is the plan's."""
     _, outcomes = indexed(Near([None, *[Killed()] * (TRIES - 1)]))
     assert sum((it.counts for it in outcomes.values()), outcomes[b"a"].counts.__class__())["accepted"] == 5
@@ -153,28 +153,28 @@ def test_a_part_at_which_workers_die_is_tried_again(archive, indexed):
     _, outcomes = indexed(near)
     assert {it.problem.problem for it in outcomes.values()} == {"ToolFailed"} and len(near.sent) == 1 + 3 * TRIES
     assert "the next run goes on from there" in outcomes[b"a"].problem.detail
-    assert len(rows(archive)) == 5, "what was committed stays"
+    assert len(rows(folders)) == 5, "what was committed stays"
 
 
-def test_an_error_of_a_worker_is_a_line_of_its_part(archive, indexed):
+def test_an_error_of_a_worker_is_a_line_of_its_part(folders, indexed):
     indexed(Near())
-    (archive / "shards" / list(shards.listed(str(archive / "shards")))[1]).write_bytes(b"no catalogue")
+    (folders / "shards" / list(shards.listed(str(folders / "shards")))[1]).write_bytes(b"no catalogue")
     with pytest.raises(programs.Failed, match="is no catalogue"):
         indexed(Near())
     indexed_now = Near([None, ValueError("no package")])
-    (archive / "shards" / list(shards.listed(str(archive / "shards")))[1]).unlink()
+    (folders / "shards" / list(shards.listed(str(folders / "shards")))[1]).unlink()
     _, outcomes = indexed(indexed_now)
     assert [it.problem.detail for it in outcomes.values() if it.problem] == ["the worker failed: ValueError: no package"]
 
 
-def test_what_is_wrong_with_a_folder_is_wrong_use(archive, indexed):
-    (archive / "shards").mkdir()
-    (archive / "shards" / "file").write_bytes(picture(1))
+def test_what_is_wrong_with_a_folder_is_wrong_use(folders, indexed):
+    (folders / "shards").mkdir()
+    (folders / "shards" / "file").write_bytes(picture(1))
     with pytest.raises(WrongFolder, match="is no folder of catalogues"):
         indexed(Near())
 
 
-def test_a_cluster_without_workers(archive, indexed, monkeypatch):
+def test_a_cluster_without_workers(folders, indexed, monkeypatch):
     """It may take as long as a program may take for one file; while there are workers, it may take any time."""
     now = itertools.count(step=10)
     monkeypatch.setattr(shard_tasks.time, "monotonic", lambda: next(now))
@@ -186,12 +186,12 @@ def test_a_cluster_without_workers(archive, indexed, monkeypatch):
 
 
 @pytest.mark.parametrize("error", [OSError("Timed out"), Killed("Timed out"), ValueError("Timed out")], ids=repr)
-def test_a_cluster_that_cannot_be_reached(error, archive, indexed):
+def test_a_cluster_that_cannot_be_reached(error, folders, indexed):
     with pytest.raises(programs.Failed, match=f"^the cluster {FAR} failed: Timed out$"):
         indexed(Near(error=error))
 
 
-def test_without_dask(called_lines, archive):
+def test_without_dask(called_lines, folders):
     with mock.patch.object(shard_tasks, "distributed", None):
         status, _, messages = called_lines("index", "p", "--shards", "shards", "--scheduler", FAR)
     assert status == 4 and "python3-distributed" in messages

@@ -7,7 +7,6 @@ Which file belongs to which picture is what the manuals of darktable (NAME.EXT.x
 import itertools
 import json
 import os
-import shutil
 
 import pytest
 from made_files import A, app1, app1_xmp, jpeg, title, xmp
@@ -97,58 +96,59 @@ def results(changes):
     return call
 
 
-class TestChanged:
-    """Two folders whose pictures are equal."""
+EQUAL = {"x.jpg": PICTURE, "y.jpg": PICTURE, "x.jpg.xmp": ONE, "y.xmp": ONE}
+LOST = 1, {"y.jpg": "different"}
+# What two folders have in place of these files, None for one that isn't there, and the answer
+OTHERWISE = {
+    "the same": ({}, {}, (0, {})),
+    "other bytes of the same meaning": (
+        {},
+        {"x.jpg.xmp": ONE.replace(b"?xpacket begin", b"?xpacket  begin") + b" " * 20},
+        (0, {}),
+    ),
+    "a lost sidecar": ({}, {"y.xmp": None}, LOST),
+    "a new sidecar": ({"y.xmp": None}, {}, LOST),
+    "a sidecar is no embedded packet": ({"y.jpg": jpeg(app1(A), app1_xmp(ONE)), "y.xmp": None}, {}, LOST),
+    "what is no XMP": ({"y.xmp": b"<x:xmpmetab"}, {"y.xmp": b"<x:xmpmetaa"}, (2, {"y.jpg": "unreadable"})),
+    # of a file that is no picture its bytes can be compared, and those of its sidecar
+    "no picture": ({"y.jpg": b"<html>"}, {"y.jpg": b"<html>"}, (0, {})),
+    "no picture, and another sidecar": (
+        {"y.jpg": b"<html>"},
+        {"y.jpg": b"<html>", "y.xmp": OTHER},
+        (1, {"y.jpg": "no picture, different bytes"}),
+    ),
+}
 
-    @pytest.fixture(autouse=True)
-    def folders(self, folder):
-        put(folder / "b", {"x.jpg": PICTURE, "y.jpg": PICTURE, "x.jpg.xmp": ONE, "y.xmp": ONE})
-        shutil.copytree(folder / "b", folder / "a")
-        self.folder = folder
 
-    def test_the_same(self, results):
-        assert results("b", "a", "--sidecars") == (0, {})
-        write(self.folder / "a" / "x.jpg.xmp", ONE.replace(b"?xpacket begin", b"?xpacket  begin") + b" " * 20)
-        assert results("b", "a", "--sidecars") == (0, {}), "other bytes of the same meaning"
+def put_equal(folder, before={}, after={}):
+    """Two folders whose pictures are equal, but for what each has otherwise."""
+    for side, others in (("b", before), ("a", after)):
+        put(folder / side, {name: it for name, it in {**EQUAL, **others}.items() if it is not None})
 
-    def test_a_lost_sidecar(self, results):
-        os.remove(self.folder / "a" / "y.xmp")
-        assert results("b", "a", "--sidecars") == (1, {"y.jpg": "different"})
-        assert results("a", "b", "--sidecars") == (1, {"y.jpg": "different"})
 
-    def test_a_sidecar_is_no_embedded_packet(self, results):
-        write(self.folder / "b" / "y.jpg", jpeg(app1(A), app1_xmp(ONE)))
-        os.remove(self.folder / "b" / "y.xmp")
-        assert results("b", "a", "--sidecars") == (1, {"y.jpg": "different"})
+@pytest.mark.parametrize("name", OTHERWISE)
+def test_two_folders(name, folder, results):
+    *sides, expected = OTHERWISE[name]
+    put_equal(folder, *sides)
+    assert results("b", "a", "--sidecars") == expected
 
-    def test_a_moved_picture_with_another_sidecar(self, results):
-        (self.folder / "a" / "new").mkdir()
-        os.rename(self.folder / "a" / "y.jpg", self.folder / "a" / "new" / "y.jpg")
-        os.rename(self.folder / "b" / "y.jpg", self.folder / "b" / "z.jpg")
-        os.link(self.folder / "a" / "new" / "y.jpg", self.folder / "b" / "y.jpg")  # the same file by its marks
-        os.remove(self.folder / "b" / "z.jpg")
-        status, found = results("b", "a", "--sidecars")
-        assert (status, found["y.jpg"]) == (1, "missing after"), found
 
-    def test_what_cannot_be_read(self, results):
-        for side in ("b", "a"):
-            os.remove(self.folder / side / "y.xmp")
-            os.mkfifo(self.folder / side / "y.xmp")
-        status, found = results("b", "a", "--sidecars")
-        assert (status, found) == (2, {"y.jpg": "not wholly read"})
+def test_a_moved_picture_with_another_sidecar(folder, results):
+    """The same file by its marks, beside which the sidecar isn't any more."""
+    put_equal(folder)
+    (folder / "a" / "new").mkdir()
+    os.rename(folder / "a" / "y.jpg", folder / "a" / "new" / "y.jpg")
+    os.remove(folder / "b" / "y.jpg")
+    os.link(folder / "a" / "new" / "y.jpg", folder / "b" / "y.jpg")
+    status, found = results("b", "a", "--sidecars")
+    assert (status, found["y.jpg"]) == (1, "missing after"), found
 
-    def test_what_is_no_xmp(self, results):
-        for side in ("b", "a"):
-            write(self.folder / side / "y.xmp", b"<x:xmpmeta" + side.encode())
-        assert results("b", "a", "--sidecars") == (2, {"y.jpg": "unreadable"})
 
-    def test_of_a_file_that_is_no_picture(self, results):
-        """What can be compared of it is its bytes, and those of its sidecar."""
-        for side in ("b", "a"):
-            write(self.folder / side / "y.jpg", b"<html>")
-        assert results("b", "a", "--sidecars") == (0, {})
-        write(self.folder / "a" / "y.xmp", OTHER)
-        assert results("b", "a", "--sidecars") == (1, {"y.jpg": "no picture, different bytes"})
+def test_a_sidecar_that_cannot_be_read(folder, results):
+    put_equal(folder, {"y.xmp": None}, {"y.xmp": None})
+    for side in ("b", "a"):
+        os.mkfifo(folder / side / "y.xmp")
+    assert results("b", "a", "--sidecars") == (2, {"y.jpg": "not wholly read"})
 
 
 class TestCatalogue:

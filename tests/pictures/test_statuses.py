@@ -2,7 +2,6 @@
 
 import os
 import shutil
-import sqlite3
 
 import pytest
 from exifnorm_pictures.cli import main
@@ -10,7 +9,7 @@ from exifnorm_pictures.model.found import UNREAD_TRAILER
 from exifnorm_pictures.scan import index
 from made_blocks import BLOCKS
 from made_files import app1, app1_xmp, exif, jpeg, title
-from studio import needs, put
+from studio import needs, put, sql_rows
 
 GOOD = jpeg(app1(exif(b"abc")), app1_xmp(title("a")))
 
@@ -110,9 +109,8 @@ def test_a_file_that_never_was_is_not_gone(asked):
 @pytest.mark.parametrize("there", [True, False])
 def test_what_a_missing_program_left_is_read_once_it_is_there(asked, monkeypatch, there):
     asked("index", "p", "--catalogue", "c", "--quiet")
-    base = sqlite3.connect("c")
-    base.executescript(f"UPDATE pictures SET not_read = NULL; INSERT INTO not_read SELECT id, 0, '{UNREAD_TRAILER}', '' FROM pictures")
-    base.close()
+    sql_rows("c", "UPDATE pictures SET not_read = NULL")
+    sql_rows("c", "INSERT INTO not_read SELECT id, 0, ?, '' FROM pictures", UNREAD_TRAILER)
     monkeypatch.setattr(index.programs, "is_there", lambda _: there)
     assert asked("index", "p", "--catalogue", "c", "--quiet") == ["1 accepted" if there else "1 unchanged"]
 
@@ -127,9 +125,7 @@ def test_a_mistyped_folder_is_refused_also_by_a_catalogue_that_is_there(asked, f
 @pytest.mark.parametrize("words", [("show", "--captions"), ("check",)], ids=" ".join)
 def test_a_database_of_another_program_is_no_picture(words, asked):
     """Such as the catalogue of an editor in a list of names. What follows it is read."""
-    base = sqlite3.connect("lr.db")
-    base.execute("CREATE TABLE pictures (id)")
-    base.close()
+    sql_rows("lr.db", "CREATE TABLE pictures (id)")
     printed = "\n".join(asked(*words, "lr.db", "p/a.jpg", status=2))
     assert "NoPicture" in printed
     assert "== p/a.jpg" in printed or "\n1 picture" in printed, printed

@@ -20,6 +20,7 @@ from exifnorm_pictures.catalogue import store
 from exifnorm_pictures.files import opening
 from exifnorm_pictures.scan import index as scan_index, looking
 from exifnorm_pictures.comparison import verified as verified_
+from exifnorm_pictures.model.records import Stamp
 
 PICTURE, CAPTIONED = jpeg(app1(A)), jpeg(app1(B))
 OTHER = jpeg(app1(A), base=SMALL_JPEG.replace(b"\xff\xdb\0\x43\0", b"\xff\xdb\0\x43\1", 1))
@@ -114,8 +115,6 @@ def test_a_missing_picture_that_is_there_elsewhere(archive, called, verified):
 
 def test_metadata_that_rotted(archive, verified, monkeypatch):
     """Bytes that differ while the inode's time stayed are no edit, even if the picture is the same."""
-    from exifnorm_pictures.model.records import Stamp
-
     before = os.stat(archive / "a.jpg")
     with open(archive / "a.jpg", "r+b") as file:
         file.seek(PICTURE.index(b"Abc"))
@@ -258,10 +257,9 @@ def test_what_happens_to_a_sidecar(name, folder, called, verified):
     assert subprocess.run(["sha256sum", "--quiet", "-c", "e"]).returncode == 0
 
 
-def test_a_picture_with_a_sidecar_that_was_written_again(folder, called, verified):
+def test_a_picture_with_a_sidecar_that_was_written_again(folder, verified, indexed):
     """Its own metadata count."""
-    put(folder / "p", {"a.jpg": PICTURE, "a.xmp": SIDECAR, "b.jpg": PICTURE, "b.xmp": SIDECAR})
-    called("index", "p", "--catalogue", "c", "--pixels", "--sidecars", "--quiet")
+    indexed({"a.jpg": PICTURE, "a.xmp": SIDECAR, "b.jpg": PICTURE, "b.xmp": SIDECAR}, "--pixels", "--sidecars")
     put(folder, {"p/a.jpg": jpeg(app1(A + b"\0\0")), "p/b.jpg": CAPTIONED})
     assert verified()[:2] == (0, {"a.jpg": ("written again", None), "b.jpg": ("captioned", None)})
 
@@ -339,11 +337,10 @@ def test_a_file_as_it_was_is_read_once(jobs, archive, verified, reads, monkeypat
     assert verified("--jobs", jobs)[:2] == (0, {"a.jpg": ("captioned", None)}) and looked == [b"a.jpg"]
 
 
-def test_bytes_of_a_file_as_it_was(folder, called):
+def test_bytes_of_a_file_as_it_was(folder, indexed):
     """By the system's own count, of one thread, whose calls stand in one line each: each byte once, in few calls."""
     size = 3_000_000
-    put(folder / "p", {f"{number}.jpg": PICTURE + bytes([number]) * size for number in range(3)})
-    called("index", "p", "--catalogue", "c", "--pixels", "--quiet")
+    indexed({f"{number}.jpg": PICTURE + bytes([number]) * size for number in range(3)}, "--pixels")
     words = ["strace", "-ff", "-y", "-e", "trace=read,pread64,readv,mmap", "-o", "trace", sys.executable, "-m", "exifnorm_pictures"]
     ran = subprocess.run([*words, "verify", "c", "--jobs", "1", "--quiet"], cwd=folder, capture_output=True, env=Studio.environment())
     assert ran.returncode == 0, ran.stderr

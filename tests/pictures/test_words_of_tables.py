@@ -10,16 +10,14 @@ from collections import Counter
 from pathlib import Path
 
 import exifnorm_pictures
-from exifnorm_pictures.cli.commands import nightly
-from exifnorm_pictures.cli.exit_codes import status_of_results
+from exifnorm_pictures.cli.output import status_of_results
 from exifnorm_pictures.cli.commands.verify import _READERS
 from exifnorm_pictures.comparison.same import group
 from exifnorm_pictures.fields import rules
 from exifnorm_pictures.fields.labels import LABELS, fields_by_label
 from exifnorm_pictures.model.budgets import LIMITS
 from exifnorm_pictures.model.found import XMP
-from exifnorm_pictures.model.texts import Result
-from exifnorm_pictures.model.words import Word
+from exifnorm_pictures.model.texts import Result, Word
 from exifnorm_pictures.refusals import explain
 from exifnorm_pictures.refusals.causes import CAUSES, OTHER_REMEDIES, XMP_REMEDIES, words_of
 
@@ -40,7 +38,6 @@ def members():
 def test_each_row(golden):
     rows = [*members()]
     rows += [("status of", it, status_of_results(Counter([it]))) for it in Result if it not in (Result.ABSENT, Result.LEFT_OUT)]
-    rows += [("news", it, *words) for it, words in nightly._WORDS.items()]
     rows += [("sums", *it) for it in _READERS.items()]
     rows += [("limit", word, f"{number:,}") for word, number in LIMITS.items()]
     rows += [("label", it.word, it.exif, it.iptc, it.xmp, it.limit, it.is_list) for it in LABELS]

@@ -6,9 +6,8 @@ import os
 
 import pytest
 from exifnorm_pictures.fields.labels import fields_by_label
-from made_files import jpeg
+from made_files import jpeg, with_texts
 from studio import SMALL_JPEG, needs, put, tool
-from test_captions import with_texts
 from test_maker_notes import bare
 
 PICTURE = jpeg(with_texts(artist=b"Anna"))

@@ -17,6 +17,7 @@ from hypothesis import assume, given, settings
 from made_files import SPACES, title, xmp
 from packets import packets
 from studio import TESTS_PATH, needs
+from exifnorm_pictures import xmp as reading
 
 RDF = "http://www.w3.org/1999/02/22-rdf-syntax-ns#"
 
@@ -24,14 +25,10 @@ LI = "<rdf:li>{}</rdf:li>"
 
 
 def said(packet, extensions=None):
-    from exifnorm_pictures import xmp as reading
-
     return reading.digest_of_statements(reading.statements(packet, reading.Extensions(extensions or {}), set()))
 
 
 def cause(packet, extensions=None):
-    from exifnorm_pictures import xmp as reading
-
     try:
         reading.statements(packet, reading.Extensions(extensions or {}), set())
     except reading.Unreadable as why:
@@ -160,7 +157,6 @@ class Packets(unittest.TestCase):
     def test_usual_forms_are_read_by_the_reader_in_python(self):
         """URIs (RFC 3986, 3 and 4.3) and languages (RFC 5646, 2.1) of any kind, in the nodes that writers use. Some write a language as other
         programs name a locale."""
-        from exifnorm_pictures.xmp import reader, tree
 
         def value(inside):
             (found,) = reader.statements(xmp(inside))

@@ -6,7 +6,7 @@ import re
 import pytest
 
 import exifnorm
-from exifnorm_pictures.extract.formats import xmp_file
+from exifnorm_pictures.extract import readers
 from exifnorm_pictures.extract.formats.packet_start import begins_packet
 from exifnorm_pictures.extract.formats.streams import HEAD
 from exifnorm_pictures.model.budgets import PACKET_BYTES
@@ -253,11 +253,11 @@ def test_a_packet_that_is_cut_in_its_wrapper_is_one(at, encoding, called, folder
 def test_only_as_much_is_read_as_is_needed(monkeypatch):
     """A file that begins as something else is looked at in its first bytes, which are in memory, and a beginning without an end up to a limit."""
     read = []
-    monkeypatch.setattr(xmp_file, "read_at", lambda stream, at, length: read.append(length) or stream[at : at + length])
-    monkeypatch.setattr(xmp_file, "size_of", len)
+    monkeypatch.setattr(readers, "read_at", lambda stream, at, length: read.append(length) or stream[at : at + length])
+    monkeypatch.setattr(readers, "size_of", len)
     for octets, expected in ((b"<svg>", [HEAD]), (b"<!DOCTYPE a><svg>", [HEAD]), (b"<!--", [HEAD, PACKET_BYTES])):
         with pytest.raises(LeftToOthers):
-            xmp_file.read(octets + b" " * (2 * PACKET_BYTES))
+            readers.read_packet(octets + b" " * (2 * PACKET_BYTES))
         assert read == expected, octets
         read.clear()
 

@@ -1,7 +1,7 @@
 """The built program while the system fails: each system call in turn returns an error, a signal ends the program at each call, a write
-stops after each byte, and memory is limited.
+stops after each byte.
 
-strace makes system calls fail, and prlimit sets limits. The calls of the loader that starts the program don't fail: that would end any
+strace makes system calls fail. The calls of the loader that starts the program don't fail: that would end any
 program. A run must end as it does without a fault, or with status 4 and the line for what failed. A file or stream that it writes has a
 prefix of the expected bytes, or its old content.
 
@@ -275,38 +275,3 @@ def test_cut_writes(runner, checks):
             outcome = runner.run(Run(["normalise", name, "OUT"]), trace=False, limits=((resource.RLIMIT_FSIZE, max(length, 1)),))
             came = (outcome.status, outcome.output, outcome.files["OUT"])
             checks.equal(f"{name}: a write of {max(length, 1)} bytes", came, (4, WRITE + b"\n", form[: max(length, 1)]))
-
-
-# ---- little memory
-
-
-@functools.lru_cache(maxsize=None)
-def runs_of_a_large_record() -> List[Run]:
-    meaning = said(large_record())
-    return [
-        Run(["check", "large"], output=b"ok iim\n"),
-        Run(["show", "large"], output=meaning.listing().encode()),
-        Run(["captions", "large"], output=meaning.captions().encode()),
-        Run(["compare", "large", "large"], output=b"same\n"),
-        Run(["normalise", "large", "OUT"], out=meaning.normal()),
-        Run([], output=meaning.normal(), stdin="large"),
-    ]
-
-
-@functools.lru_cache(maxsize=None)
-def large_record() -> bytes:
-    return record(200_000)
-
-
-@pytest.mark.parametrize("command", ["check", "show", "captions", "compare", "normalise", "filter"])
-def test_little_memory(runner, checks, monkeypatch, command):
-    """With more and more memory a run ends with its line of a failure, and from some point on it succeeds."""
-    monkeypatch.setitem(FILES, "large", large_record())
-    run = next(it for it in runs_of_a_large_record() if it.words[:1] == [command] or not it.words and command == "filter")
-    statuses = set()
-    for most in (it * 2**20 for it in (0.25, 0.5, 1, 2, 3, 4, 5, 6, 8, 10, 12, 16, 24, 64)):
-        outcome = runner.run(run, trace=False, limits=((resource.RLIMIT_DATA, int(most)),))
-        is_reported = says(run, outcome, [MEMORY + it for it in SIDES]) and outcome.output.startswith(MEMORY)
-        checks.check(f"with {most} bytes", is_reported or is_right(run, outcome), (outcome.status, outcome.output[-80:], outcome.errors))
-        statuses.add(outcome.status)
-    checks.equal("memory is short, and is enough", statuses, {0, 4})

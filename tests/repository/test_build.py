@@ -413,19 +413,6 @@ def test_what_make_has_proved_and_built_is_run_while_it_is_up_to_date(room):
     assert room.call("--where", cwd="/").stdout == f"{room.top}/out/quick/exifnorm\n"
 
 
-def test_no_product_is_left_beside_the_note_of_another(room):
-    """The compilation is killed between the two, and the edit then undone."""
-    room.call()
-    note = room.top / "out/quick/px_cli.made-from"
-    room.main.write_text("two")
-    kills = "import os, signal\nos.replace = lambda a, b, move=os.replace: move(a, b) if a.name != 'note' else os.kill(os.getpid(), signal.SIGKILL)\n"
-    script = room.write("build/killed.py", f"{kills}import launch\nlaunch.main('exifnorm', [])\n")
-    assert room.call(str(script), program=sys.executable).returncode == -signal.SIGKILL
-    assert (room.top / "out/quick/making/note").exists() and not note.exists()
-    room.main.write_text("one")
-    assert room.call("a").stdout == "quick one: a\n"
-
-
 # ---- what they say if they can't
 
 EACH_LAUNCHER = pytest.mark.parametrize("call", [Room.call, Room.pictures])

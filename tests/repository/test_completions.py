@@ -4,12 +4,15 @@ How bash, zsh and fish read completions is in their own manuals: COMPREPLY and `
 test_installed.py tests those of the installed commands.
 """
 
+import argparse
 import shutil
 import sys
 from pathlib import Path
 from shlex import quote
 
 import pytest
+from exifnorm_pictures.cli import parser
+from grammar import flat, program_of
 from installed import TOP, run
 
 # A command with all that a help text may have, in the forms of clap and of argparse: an apostrophe, brackets, colons and a backslash,
@@ -106,16 +109,6 @@ options:
   -h, --help  Print help
 """,
 }
-# The lines for fish of the command list-all, by fish's manual: -s is a short option and -l a long one; -r takes a value, -x one that is
-# no file, and -F offers files.
-FISH = r"""
--n __fish_use_subcommand -a list-all -d 'List all'
--n '__fish_seen_subcommand_from list-all' -s h -l help -d 'Print help'
--n '__fish_seen_subcommand_from list-all' -s k -l kind -x -a 'one two' -d 'one \ two'
--n '__fish_seen_subcommand_from list-all' -l catalogue -r -F -d 'where'
--n '__fish_seen_subcommand_from list-all' -l title -x -d 'its title'
--n '__fish_seen_subcommand_from list-all' -l note -x -d 'a note'
-"""
 
 
 @pytest.fixture(scope="module")
@@ -136,6 +129,19 @@ def made(session_folder: Path) -> Path:
     return made
 
 
+def test_options_are_those_of_the_parser(folder: Path, library: Path) -> None:
+    """Of each command of exifnorm-pictures."""
+    (folder / "exifnorm-pictures").write_text(f'#!/bin/sh\nexec {sys.executable} {TOP}/build/pictures.py "$@"\n', encoding="utf-8")
+    (folder / "exifnorm-pictures").chmod(0o755)
+    found = {
+        it.name: {name for option in it.options for name in option.names}
+        for it in flat(program_of(str(folder / "exifnorm-pictures")).commands)
+    }
+    shown = {name: [one for one in it._actions if one.help != argparse.SUPPRESS] for name, it in parser.parsers()[1].items()}
+    due = {name: {word for it in actions for word in it.option_strings} for name, actions in shown.items()}
+    assert {name: found[name] for name in due} == due
+
+
 def need(shell: str) -> None:
     if not shutil.which(shell):
         pytest.skip(f"{shell} is not installed")
@@ -152,9 +158,6 @@ class TestBash:
         prefix = 'source "$1"; shift; COMP_WORDS=("$@") COMP_CWORD=$(($# - 1)); '
         return run("bash", "-c", prefix + code, "bash", self.file, "my-tool", *words, folder=self.files)
 
-    def test_its_own_variables_are_kept(self) -> None:
-        assert self.ran('_my_tool; echo "${word-}${last-}${options-}${operands-}"', "show", "") == "\n"
-
     @pytest.mark.parametrize(
         "words, expected", [(["show", ""], "-o filenames\n"), (["show", "--catalogue", ""], "-o filenames\n"), (["show", "--kind", ""], "")]
     )
@@ -162,8 +165,9 @@ class TestBash:
         """So bash puts a slash after a folder, and a backslash before a space: for operands, and for the values of options."""
         assert self.ran('compopt() { echo "$*"; }; _my_tool', *words) == expected
 
-    def test_the_command_is_completed(self) -> None:
-        assert self.ran("complete -p") == "complete -F _my_tool my-tool\n"
+    def test_the_command_is_completed_and_leaves_no_variable(self) -> None:
+        said = self.ran('complete -p; _my_tool; echo "${word-}${last-}${options-}${operands-}"', "show", "")
+        assert said == "complete -F _my_tool my-tool\n\n"
 
     @pytest.mark.parametrize(
         "line, expected",
@@ -228,24 +232,14 @@ source_it $1"""
         """What the function passes to zsh's own functions, a line for each."""
         return run("zsh", "-f", "-c", self.CODE, "zsh", self.folder / "_my-tool", "my-tool", *words).splitlines()
 
-    def test_the_first_line_names_the_command(self) -> None:
-        assert (self.folder / "_my-tool").read_text(encoding="utf-8").splitlines()[0] == "#compdef my-tool"
-
-    def test_commands(self) -> None:
-        commands = [
-            "show:Show a file: it's [one] line",
-            "pair:Pair two files",
-            "list-all:List all",
-            "join:Join files",
-            "move:Move files",
-            "store:Keep files",
-        ]
-        assert self.offers("") == ["command", *commands, *self.HELP]
+    COMMANDS = ["show:Show a file: it's [one] line", "pair:Pair two files", "list-all:List all", "join:Join files"]
+    COMMANDS += ["move:Move files", "store:Keep files"]
 
     def test_options_and_operands(self) -> None:
         jobs = ["(-n --jobs)-n[how many]:N: ", "(-n --jobs)--jobs[how many]:N: "]
         kind = ["(-k --kind)-k[one \\\\ two]:value:(one two)", "(-k --kind)--kind[one \\\\ two]:value:(one two)"]
         where, files = "--catalogue[where]:FILE:_files", "*:file:_files"
+        assert self.offers("") == ["command", *self.COMMANDS, *self.HELP]
         assert self.offers("show", "") == ["--kind[which\\: \\[blocks\\]]:value:(both exif)", *jobs, where, *self.HELP, files]
         assert self.offers("pair", "") == [*self.HELP, "1:file:_files", "2:file:_files"]
         assert self.offers("list-all", "") == [*self.HELP, *kind, where, "--title[its title]:TITLE: ", "--note[a note]:TEXT: "]
@@ -260,6 +254,7 @@ source_it $1"""
         code = '_describe() { : } ; _arguments() { print -rl -- "at $CURRENT of $words" "$@" }; fpath=($1); autoload -Uz _my-tool; words=(my-tool join "") CURRENT=3; _my-tool'
         said = run("zsh", "-f", "-c", code, "zsh", self.folder)
         assert said.startswith("at 2 of join \n") and "*:file:_files\n" in said
+        assert (self.folder / "_my-tool").read_text(encoding="utf-8").splitlines()[0] == "#compdef my-tool"
 
 
 class TestFish:
@@ -308,8 +303,3 @@ class TestFish:
         words = ["fish", "--no-config", "-c", "source $argv[1]; complete -C $argv[2]", self.file, f"my-tool {line}"]
         said = run(*words, folder=self.base / "files", HOME=str(self.base))
         assert sorted(it.rstrip("\t") for it in said.splitlines()) == expected
-
-    def test_each_option_is_declared_by_the_manual_of_fish(self) -> None:
-        lines = self.file.read_text(encoding="utf-8").splitlines()
-        assert [it for it in lines if "list-all" in it] == [f"complete -c my-tool {it}" for it in FISH.split("\n")[1:-1]]
-        assert "complete -c my-tool -n __fish_use_subcommand -s h -l help -d 'Print help'" in lines

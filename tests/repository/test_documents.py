@@ -7,6 +7,7 @@ is run, or is a session of Python, which goes on in the next such block. A block
 
 from __future__ import annotations
 
+import html
 import math
 import os
 import re
@@ -19,6 +20,7 @@ from typing import Iterator, NamedTuple
 
 import exifnorm
 import pytest
+from exifnorm_pictures.extract import readers
 from made_blocks import BLOCKS, with_exif
 from proved import bounds
 
@@ -222,6 +224,12 @@ def test_the_example_of_the_manual_page_in_c(folder: Path, environment: dict[str
 # ---- lists that must agree
 
 
+def test_the_drawn_letter_is_that_of_the_recipes() -> None:
+    drawn = re.findall('class="mono">(.*)</text>', text_of("docs/letter.svg"))
+    letter = text_of("docs/RECIPES.md").partition("tail -n +3 letter\n```\n\n```text\n")[2].partition("```")[0]
+    assert [html.unescape(it) for it in drawn] == letter.splitlines() and drawn
+
+
 def help_of(environment: dict[str, str], *words: str) -> str:
     return run(TOP, {**environment, "COLUMNS": "500"}, *words, "--help")
 
@@ -233,6 +241,12 @@ def test_statuses_are_those_of_the_format_and_the_page(environment: dict[str, st
     assert statuses and re.findall(r"(?m)^\.TP\n\.B (\d+)$", page) == statuses
     listed = text_of("docs/FORMAT.md").split("\n## 8.")[1].split("\n## 9.")[0]
     assert sorted(set(re.findall(r"(?m)^\| (\d+) \|", listed))) == statuses
+
+
+def test_each_format_has_its_rows() -> None:
+    tables = text_of("docs/COMPARED.md")
+    due = {it.name: 3 - (it.name == "NAME.xmp") for it in readers.FORMATS}  # a sidecar has no other parts
+    assert {name: tables.count(f"\n| {name} |") for name in due} == due
 
 
 def test_the_limit_is_the_same_everywhere() -> None:

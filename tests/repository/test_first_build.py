@@ -188,39 +188,26 @@ def test_what_the_gate_refuses_is_not_built(user, name, text, why):
 # ---- these sources without proofs
 
 
-@pytest.fixture(scope="module")
-def compiled(session_folder):
-    """What both launchers compile in a clone of these sources, each called once."""
+BLOCK = bytes.fromhex("4949 2a00 08000000 0100 1201 0300 01000000 0600 0000 00000000")
+NORMAL = bytes.fromhex("4d4d 002a 00000008 0001 0112 0003 00000001 0006 0000 00000000")
+
+
+def test_these_sources_are_compiled_without_proofs(folder):
+    """By both launchers in a clone, each called once: the program and the library answer, and the guard refuses both."""
     if not shutil.which("rt"):
         pytest.skip("there is no command rt on the PATH")
-    top = session_folder / "clone"
-    top.mkdir()
     for name in ("build", "crates", "packaging", "python"):
-        shutil.copytree(TOP / name, top / name, ignore=shutil.ignore_patterns("out", "__pycache__"))
+        shutil.copytree(TOP / name, folder / name, ignore=shutil.ignore_patterns("out", "__pycache__"))
     for name in ("crates.txt", "HANDLES", "exifnorm", "exifnorm-pictures"):
-        shutil.copy(TOP / name, top / name)
+        shutil.copy(TOP / name, folder / name)
     environment = {name: value for name, value in os.environ.items() if not name.startswith("EXIFNORM_")}
-    for name in ("exifnorm", "exifnorm-pictures"):
-        ran = subprocess.run([top / name, "--version"], env=environment, capture_output=True, text=True, check=False)
-        assert (ran.returncode, ran.stdout.endswith("-unproved\n"), ran.stdout.split()[0]) == (0, True, name), ran
-    return top / "out" / "quick"
-
-
-class TestWithoutProofs:
-    BLOCK = bytes.fromhex("4949 2a00 08000000 0100 1201 0300 01000000 0600 0000 00000000")
-    NORMAL = bytes.fromhex("4d4d 002a 00000008 0001 0112 0003 00000001 0006 0000 00000000")
-
-    def test_the_program_has_the_normal_form(self, compiled):
-        ran = subprocess.run([compiled / "exifnorm"], input=self.BLOCK, capture_output=True, check=False)
-        assert (ran.returncode, ran.stdout) == (0, self.NORMAL), ran
-
-    def test_the_library_has_it_and_each_function_of_the_header(self, compiled):
-        code = f"import exifnorm; assert exifnorm.normal({self.BLOCK!r}) == {self.NORMAL!r}; print(exifnorm.version())"
-        environment = {**os.environ, "PYTHONPATH": str(TOP / "python"), "EXIFNORM_LIBRARY": str(compiled / "libexifnorm.so.1")}
-        ran = subprocess.run([sys.executable, "-c", code], env=environment, capture_output=True, text=True, check=False)
-        assert ran.returncode == 0 and ran.stdout.endswith("-unproved\n"), ran
-
-    def test_the_guard_refuses_both(self, compiled):
-        for name in ("exifnorm", "libexifnorm.so.1"):
-            ran = subprocess.run([sys.executable, TOP / "build/guard.py", compiled / name], capture_output=True, text=True, check=False)
-            assert ran.returncode == 1 and "without proofs" in ran.stderr, ran
+    assert subprocess.check_output([folder / "exifnorm"], env=environment, input=BLOCK) == NORMAL
+    assert subprocess.check_output([folder / "exifnorm-pictures", "--version"], env=environment, text=True).endswith("-unproved\n")
+    environment |= {"PYTHONPATH": str(TOP / "python"), "EXIFNORM_LIBRARY": str(folder / "out/quick/libexifnorm.so.1")}
+    code = f"import exifnorm; assert exifnorm.normal({BLOCK!r}) == {NORMAL!r}"  # which needs each function of the header
+    subprocess.run([sys.executable, "-c", code], env=environment, check=True)
+    for name in ("exifnorm", "libexifnorm.so.1"):
+        ran = subprocess.run(
+            [sys.executable, TOP / "build/guard.py", folder / "out/quick" / name], capture_output=True, text=True, check=False
+        )
+        assert ran.returncode == 1 and "without proofs" in ran.stderr, ran

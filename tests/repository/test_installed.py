@@ -8,7 +8,6 @@ from __future__ import annotations
 import os
 import re
 import shutil
-import subprocess
 import sys
 import tarfile
 import zipfile
@@ -72,46 +71,18 @@ def other(session_folder: Path, program: Path, library: Path) -> Tree:
     return it
 
 
-class Debian:
-    """The Debian packages of a release below a folder, whose package database is a copy of this machine's."""
-
-    def __init__(self, folder: Path, made: Path) -> None:
-        self.root, self.tools = folder / "root", folder / "tools"
-        self.files = {it.name.partition("_")[0]: it for pattern in DEBS for it in made.glob(f"{pattern}.deb")}
-        for name in ("info", "updates", "triggers"):
-            (self.root / "var/lib/dpkg" / name).mkdir(parents=True)
-        (self.root / "var/lib/dpkg/available").touch()
-        shutil.copy("/var/lib/dpkg/status", self.root / "var/lib/dpkg/status")
-        self.make_tools()
-        self.before = self.outside_database()
-        self.dpkg("--install", *self.files.values())
-
-    def make_tools(self) -> None:
-        """Commands for the scripts of packages, which run outside the root: they compile what is below it, as Debian's do."""
-        listed = 'dpkg --root="$DPKG_ROOT" -L "$2" | grep "[.]py$" | sed "s|^|$DPKG_ROOT|"'
-        cleaned = 'dpkg --root="$DPKG_ROOT" -L "$2" | grep "/__init__[.]py$" | sed "s|^\\(.*\\)/[^/]*$|$DPKG_ROOT\\1/__pycache__|"'
-        scripts = {
-            "py3compile": f"{listed} | xargs {DEBIAN_PYTHON} -m py_compile",
-            "py3clean": f"{cleaned} | xargs rm -rf",
-            "pypy3compile": ":",
-        }
-        self.tools.mkdir()
-        for name, code in scripts.items():
-            (self.tools / name).write_text(f"#!/bin/sh\nset -e\n{code}\n")
-            (self.tools / name).chmod(0o755)
-
-    def dpkg(self, *words: str | Path) -> str:
-        options = [f"--root={self.root}", "--force-script-chrootless"]
-        return run("dpkg", *options, *words, PATH=f"{self.tools}:{SYSTEM_PATH}", PYTHONDONTWRITEBYTECODE="")
-
-    def outside_database(self) -> set[str]:
-        return {it for it in tree(self.root) if not it.startswith("var/lib/dpkg/")}
+@pytest.fixture(scope="session")
+def debs(made: Path) -> dict[str, Path]:
+    """The Debian packages of a release, by their names. None has a script of its own that dpkg would run."""
+    return {it.name.partition("_")[0]: it for pattern in DEBS for it in made.glob(f"{pattern}.deb")}
 
 
 @pytest.fixture(scope="session")
-def debian(session_folder: Path, made: Path) -> Debian:
-    (session_folder / "debian").mkdir()
-    return Debian(session_folder / "debian", made)
+def debian(session_folder: Path, debs: dict[str, Path]) -> Path:
+    """The folder in which all packages are unpacked."""
+    for file in debs.values():
+        run("dpkg-deb", "-x", file, session_folder / "debian")
+    return session_folder / "debian"
 
 
 @pytest.fixture(scope="session")
@@ -136,9 +107,9 @@ def place(request: pytest.FixtureRequest) -> Place:
     it = request.getfixturevalue(request.param)
     if isinstance(it, Tree):
         return Place(it.root, it.at(), it.at("lib"), it.module_folder, it.python)
-    if isinstance(it, Debian):
+    if request.param == "debian":
         machine = run("dpkg-architecture", "-qDEB_HOST_MULTIARCH").strip()
-        return Place(it.root, it.root / "usr", it.root / "usr/lib" / machine, it.root / "usr/lib/python3/dist-packages")
+        return Place(it, it / "usr", it / "usr/lib" / machine, it / "usr/lib/python3/dist-packages")
     return Place(it, it, it / "lib", it / "lib/python3/site-packages")
 
 
@@ -212,17 +183,17 @@ def test_files_and_modes_of_installations(usr: Tree, other: Tree, golden: Callab
     )
 
 
-def test_files_and_modes_of_the_packages(debian: Debian, folder: Path) -> None:
+def test_files_and_modes_of_the_packages(debs: dict[str, Path], folder: Path) -> None:
     """All packages together have what install writes, but for the list of uninstall, the licences and the link of the Python package;
     and each has the papers that Debian requires."""
     found = {}
-    for name, file in debian.files.items():
+    for name, file in debs.items():
         run("dpkg-deb", "-x", file, folder / name)
         files = {it: mode for it, mode in tree(folder / name).items() if not it.endswith("/")}
         assert set(files) & set(found) == set(), name
         found.update(files)
     libraries = f"usr/lib/{run('dpkg-architecture', '-qDEB_HOST_MULTIARCH').strip()}"
-    expected = {f"usr/share/doc/{name}/{it}": FILE for name in debian.files for it in ("changelog.Debian.gz", "changelog.gz", "copyright")}
+    expected = {f"usr/share/doc/{name}/{it}": FILE for name in debs for it in ("changelog.Debian.gz", "changelog.gz", "copyright")}
     for name, mode in Tree(Path("/"), "/usr", DEBIAN_PYTHON, ["PYTHONINCLUDE="]).expected().items():
         moved = re.sub(r"^usr/lib/(cmake|lib|pkgconfig)", rf"{libraries}/\1", name).replace("site-functions", "vendor-completions")
         if not re.search(r"/$|LICENSE-|CHANGELOG|share/exifnorm/installed|exifnorm/libexifnorm", moved):
@@ -230,13 +201,13 @@ def test_files_and_modes_of_the_packages(debian: Debian, folder: Path) -> None:
     assert found == expected and (folder / "libexifnorm1" / libraries).exists() and (folder / "python3-exifnorm/usr/lib/python3").exists()
 
 
-def test_lintian_has_no_error_and_no_warning(debian: Debian) -> None:
+def test_lintian_has_no_error_and_no_warning(debs: dict[str, Path]) -> None:
     """Except for the Debian bug that a first upload closes."""
     words = ["--allow-root", "--fail-on", "error,warning", "--suppress-tags", "initial-upload-closes-no-bugs"]
-    run("lintian", *words, *debian.files.values(), PATH=SYSTEM_PATH)
-    depends = run("dpkg-deb", "-f", debian.files["python3-exifnorm"], "Depends")
+    run("lintian", *words, *debs.values(), PATH=SYSTEM_PATH)
+    depends = run("dpkg-deb", "-f", debs["python3-exifnorm"], "Depends")
     assert f"libexifnorm1 (>= {VERSION})" in depends and "libimage-exiftool-perl" in run(
-        "dpkg-deb", "-f", debian.files["exifnorm-pictures"], "Depends"
+        "dpkg-deb", "-f", debs["exifnorm-pictures"], "Depends"
     )
 
 
@@ -301,22 +272,6 @@ def test_a_wheel_whose_library_needs_more_claims_no_manylinux(folder: Path, libr
     assert "stale" not in "".join(zipfile.ZipFile(folder / "made" / expected[0]).namelist())
 
 
-def test_the_wheel_runs_with_its_own_libraries(wheel: Path) -> None:
-    code = (
-        f"import exifnorm as e, exifnorm._library as l; print(l._native and l._native.__file__, e.version(), e.normal({BLOCK}) == {BLOCK})"
-    )
-    said = run(DEBIAN_PYTHON, "-B", "-c", f"{code}; print(open('/proc/self/maps').read())", PYTHONPATH=str(wheel), EXIFNORM_LIBRARY="")
-    assert said.startswith(f"{wheel / EXTENSION if has_headers(DEBIAN_PYTHON) else None} {VERSION} True\n")
-    assert f"{wheel}/exifnorm/libexifnorm.so.1" in said and ".symtab" not in run("readelf", "-SW", wheel / "exifnorm/libexifnorm.so.1")
-
-
-def test_removal_of_the_packages_leaves_nothing(debian: Debian) -> None:
-    """The last test of the packages, because they are gone after it."""
-    assert debian.outside_database() - debian.before
-    debian.dpkg("--purge", *debian.files)
-    assert debian.outside_database() == debian.before
-
-
 # ---- how `make install` is called
 
 
@@ -352,13 +307,6 @@ def test_a_step_that_fails_ends_the_installation(folder: Path, library: Path, wo
     )
 
 
-def test_variables_of_the_callers_environment_change_nothing() -> None:
-    """Only those of make's command line do."""
-    wrong = {it: "wrong" for it in re.findall(r"^([A-Za-z_]+) =", text_of("Makefile"), re.MULTILINE)}
-    assert {"DESTDIR", "INTERPRETER", "PREFIX", "PYTHON", "STRIP", "stage"} <= set(wrong)
-    assert run("make", "-n", "stage", "uninstall", **wrong) == run("make", "-n", "stage", "uninstall")
-
-
 def test_what_is_left_to_do_is_printed_but_for_a_package() -> None:
     said = run("make", "-n", "install", "PREFIX=/usr/local", f"PYTHON={DEBIAN_PYTHON}")
     version = run(DEBIAN_PYTHON, "-c", "import sys; print('%d.%d' % sys.version_info[:2])").strip()
@@ -381,25 +329,6 @@ def test_the_command_runs_by_the_python_that_it_was_installed_for(usr: Tree, oth
         (folder / f"exifnorm_pictures/{name}__init__.py").touch()
     (folder / "exifnorm_pictures/cli/main.py").write_text("def main():\n    print('another version')\n")
     assert run(folder / "linked-pictures", "--version", PYTHONPATH=str(folder)) == f"exifnorm-pictures {VERSION}\n"
-
-
-def test_others_can_run_the_program(other: Tree, folder: Path) -> None:
-    shutil.copytree(other.at("bin"), folder / "bin")
-    user = {"user": "nobody", "group": "nogroup", "extra_groups": []} if os.getuid() == 0 else {}
-    ran = subprocess.run([folder / "bin" / "exifnorm", "--version"], cwd="/", stdout=subprocess.PIPE, check=True, **user)
-    assert ran.stdout == f"exifnorm {VERSION}\n".encode()
-
-
-def test_it_runs_in_an_environment_of_python_and_uninstall_leaves_nothing(folder: Path, library: Path) -> None:
-    prefix = folder / "venv"
-    run(sys.executable, "-m", "venv", "--without-pip", prefix)
-    before, here = tree(prefix), Tree(Path("/"), str(prefix), str(prefix / "bin" / "python3"))
-    here.make("install")
-    (folder / "a.jpg").write_bytes(PICTURE)
-    variables = {"PYTHONPATH": "", "EXIFNORM_LIBRARY": "", "PYTHONDONTWRITEBYTECODE": "1"}
-    assert "Orientation" in run(here.at("bin/exifnorm-pictures"), "show", folder / "a.jpg", folder=Path("/"), **variables)
-    here.make("uninstall")
-    assert tree(prefix) == before
 
 
 def test_uninstall_removes_what_install_wrote_and_nothing_else(folder: Path, library: Path) -> None:
@@ -476,33 +405,6 @@ def test_example_is_built_by_find_package(usr: Tree, folder: Path) -> None:
     assert re.findall(r"^-- (.*: [01])$", said, re.MULTILINE) == [f"{it}: {found}" for it, found in wanted.items()]
     run("cmake", "--build", "build", folder=folder)
     assert run("build/compare", folder=folder) == "same\n"
-
-
-# ---- completion
-
-
-def words_of_help(program: Path, *words: str) -> tuple[set[str], set[str]]:
-    """The commands and the options in a help text, found in another way than by `packaging/grammar.py`."""
-    body = run(program, *words, "--help", COLUMNS="500", PYTHONDONTWRITEBYTECODE="1").partition("Statuses:")[0]
-    lines = "\n".join(re.findall(r"^  (-.*?)(?:   *.*)?$", body, re.MULTILINE))
-    return set(re.findall(r"^ {2,4}([a-z]+)  +\w", body, re.MULTILINE)), set(
-        re.findall(r"(?<![\w-])(--?[a-z0-9V][a-z-]*)(?=[, \n]|$)", lines)
-    )
-
-
-def offers(usr: Tree, *words: str) -> set[str]:
-    """What bash offers for the last word."""
-    code = 'source "$1"; shift; COMP_WORDS=("$@") COMP_CWORD=$(($# - 1)); _${1//-/_}; printf "%s\\n" "${COMPREPLY[@]}"'
-    return set(run("bash", "-c", code, "bash", usr.at("share/bash-completion/completions", words[0]), *words, folder=EXAMPLES).split())
-
-
-@pytest.mark.parametrize("name", ["exifnorm", "exifnorm-pictures"])
-def test_a_shell_offers_what_help_shows(usr: Tree, name: str) -> None:
-    """test_completions.py has the other shells, and what is offered after an option."""
-    commands, options = words_of_help(usr.at("bin", name))
-    assert len(commands) >= 5 and offers(usr, name, "") == commands | options
-    for command in commands:
-        assert offers(usr, name, command, "-") == words_of_help(usr.at("bin", name), command)[1], command
 
 
 # ---- the version

@@ -1,18 +1,14 @@
 """`make release` in two folders: the same bytes, and the forms that test_installed.py doesn't use. And what `make clean` and `help` do."""
 
-import base64
-import gzip
 import json
 import os
 import re
 import shutil
 import subprocess
-from pathlib import Path
 from unittest import mock
 
 import pytest
 
-import guard
 import machines
 import release
 from releases import DEBS, TOP, environment, one, run
@@ -32,45 +28,15 @@ def test_two_runs_in_different_folders_write_the_same_bytes(releases):
     assert [name for name in first if first[name] != second[name]] == []
 
 
-def test_it_has_each_form_and_the_sums(made):
-    assert {it.name for it in made.glob("*.deb")} == {one(made, f"{pattern}.deb").name for pattern in (*DEBS, *DEBS_OF_AARCH64)}
-    for pattern in (
-        "*x86_64.whl",
-        "*aarch64.whl",
-        "*-linux-*.tar.gz",
-        "*-static-x86_64.tar.gz",
-        "*-static-aarch64.tar.gz",
-        "*.orig.tar.gz",
-        "*.dsc",
-        "*.debian.tar.*",
-        "*.spdx.json",
-        "*-c.tar.gz",
-        f"exifnorm-{machines.VERSION}.tar.gz",
-        "*.tgz",
-        "*.wasm",
-        "*.html",
-        "README",
-    ):
-        one(made, pattern)
-    run("sha256sum", "--check", "--strict", "SHA256SUMS", cwd=made)
-    assert len((made / "SHA256SUMS").read_text().splitlines()) == len(list(made.iterdir())) - 1
-
-
 def test_each_file_that_the_readme_names_is_there_and_the_other_way_round(made):
     text = (made / "README").read_text()
     assert "@" not in text
     named = {
         it.removeprefix("./") for it in re.findall(r"\S*exifnorm\S*[_-]\d\S*\.(?:deb|whl|tar\.gz|tgz|tar\.xz|dsc|json|html|wasm)", text)
     }
-    assert named == {it.name for it in made.iterdir()} - {"README", "SHA256SUMS"}
-
-
-def test_no_file_that_git_does_not_list_is_in_it(made, tmp_path):
-    for it in (one(made, "*.orig.tar.gz"), one(made, "*-linux-*.tar.gz")):
-        names = run("tar", "-tf", it)
-        assert "stray" not in names and "samples/before" in names, it
-    for it in made.glob("*.whl"):
-        assert "stray" not in run(PYTHON, "-m", "zipfile", "-l", it)
+    assert named == {it.name for it in made.iterdir()} - {"README", "SHA256SUMS"} and len(list(made.glob("*.deb"))) == 8
+    run("sha256sum", "--check", "--strict", "SHA256SUMS", cwd=made)
+    assert len((made / "SHA256SUMS").read_text().splitlines()) == len(list(made.iterdir())) - 1
 
 
 # ---- each form, installed
@@ -110,14 +76,19 @@ def test_the_debian_packages_of_aarch64_are_used(made, tmp_path):
     assert run(*qemu, tmp_path / "compare") == "same\n"
 
 
+def glibc_of(*files):
+    """The newest version of glibc that some files need."""
+    found = re.findall(r"GLIBC_(\d+)\.(\d+)", "".join(run("readelf", "-VW", it) for it in files))
+    return max((int(major), int(minor)) for major, minor in found)
+
+
 @pytest.mark.parametrize("name", ["exifnorm", "libexifnorm1"])
 def test_the_packages_of_aarch64_depend_on_the_glibc_that_they_need(made, tmp_path, name):
     package = one(made, f"{name}_*_arm64.deb")
     run("dpkg-deb", "-x", package, tmp_path)
     files = [it for it in (*tmp_path.glob("usr/bin/exifnorm"), *tmp_path.glob("usr/lib/*/*.so.1.*"))]
-    needed = {(int(a), int(b)) for a, b in re.findall(r"GLIBC_(\d+)\.(\d+)", "".join(run("readelf", "-VW", it) for it in files))}
     depended = re.fullmatch(r"libc6 \(>= (\d+)\.(\d+)\)\n", run("dpkg-deb", "-f", package, "Depends"))
-    assert needed and max(needed) <= (int(depended[1]), int(depended[2]))
+    assert glibc_of(*files) <= (int(depended[1]), int(depended[2]))
 
 
 def test_the_wheel_of_aarch64(made, tmp_path):
@@ -130,8 +101,7 @@ def test_the_wheel_of_aarch64(made, tmp_path):
     run(PYTHON, "-m", "zipfile", "-e", packed, tmp_path)
     library = tmp_path / "exifnorm/libexifnorm.so.1"
     assert "Machine:                           AArch64" in run("readelf", "-hW", library)
-    needed = {(int(a), int(b)) for a, b in re.findall(r"GLIBC_(\d+)\.(\d+)", run("readelf", "-VW", library))}
-    assert packed.name.endswith("-py3-none-manylinux_%d_%d_aarch64.whl" % max(needed))
+    assert packed.name.endswith("-py3-none-manylinux_%d_%d_aarch64.whl" % glibc_of(library))
     assert packed.name.partition("-py3")[2] in "-py3" + run("cat", one(tmp_path, "*.dist-info/WHEEL")).replace("\n", ".whl\n")
     run(machines.GCC, "-I", TOP / "crates/px_c/include", machines.HERE / "load.c", "-o", tmp_path / "load", "-ldl")
     said = run(machines.QEMU, "-L", machines.ROOT, tmp_path / "load", library)
@@ -179,45 +149,6 @@ def test_the_list_of_components_has_what_is_linked_and_what_it_was_made_with(mad
     assert linked == set(licences) - {"exifnorm", "binaryen", "wabt"}
 
 
-# ---- what was compiled without proofs is in none
-
-
-def unpacked(file, folder):
-    """A folder with the content of a package or of an archive."""
-    folder.mkdir()
-    if file.suffix == ".deb":
-        run("dpkg-deb", "-x", file, folder)
-    elif file.suffix == ".whl":
-        run(PYTHON, "-m", "zipfile", "-e", file, folder)
-    else:
-        run("tar", "-xf", file, "-C", folder)
-    return folder
-
-
-def code_in(path):
-    """The code in a file: a program, a library, an object, a module of WebAssembly, or the C source of one; empty if it has none."""
-    octets = path.read_bytes()
-    if octets[:4] in (b"\x7fELF", b"\0asm") or octets[:8] == b"!<arch>\n" or path.name == "module.c":
-        return octets
-    module_in_page = re.search(rb'id="module">([^<]+)<', octets) if path.suffix == ".html" else None
-    return gzip.decompress(base64.b64decode(module_in_page[1])) if module_in_page else b""
-
-
-def test_nothing_in_it_was_compiled_without_proofs(made, tmp_path):
-    """The version ends with -unproved in such code, wherever it is."""
-    archives = [it for it in made.iterdir() if re.search(r"\.(deb|whl|tgz|tar\.gz)$", it.name)]
-    folders = [unpacked(it, tmp_path / it.name) for it in archives]
-    files = [it for folder in folders for it in folder.rglob("*") if it.is_file() and not it.is_symlink()] + [
-        *made.glob("*.wasm"),
-        *made.glob("*.html"),
-    ]
-    code = {str(it): octets for it in files if (octets := code_in(it))}
-    assert [name for name, octets in code.items() if guard.MARK.encode() in octets] == []
-    with_version = [name for name, octets in code.items() if machines.VERSION.encode() in octets or name.endswith("module.c")]
-    without = {Path(name).name for name in code} - {Path(name).name for name in with_version}
-    assert without <= {"_native.abi3.so"} and len(with_version) >= 18, with_version
-
-
 def test_the_source_package_builds_the_same_packages(made, tmp_path):
     """With the proofs; without them and without the toolchain the build ends, and names what is missing. What the build leaves is ignored
     by git, and `make clean` removes it, but no proof."""
@@ -256,8 +187,7 @@ def test_only_what_the_page_of_packages_lists_is_needed_of_glibc(made, tmp_path)
     run("tar", "-xf", one(made, "*-linux-*.tar.gz"), "-C", tmp_path)
     tree, page = one(tmp_path, "exifnorm-*"), (TOP / "docs/PACKAGING.md").read_text(encoding="utf-8")
     for name, what in (("bin/exifnorm", "program"), ("lib/libexifnorm.so.1", "library")):
-        found = re.findall(r"GLIBC_(\d+)\.(\d+)", run("readelf", "-VW", tree / name))
-        newest = max((int(major), int(minor)) for major, minor in found)
+        newest = glibc_of(tree / name)
         assert f"{newest[0]}.{newest[1]} the {what}" in page, (name, newest)
         assert f"{newest[0]}.{newest[1]}" in (tree / "INSTALL").read_text(encoding="utf-8"), (name, newest)
 

@@ -1,19 +1,19 @@
-"""Headless Firefox over WebDriver BiDi, by a WebSocket of its own: no further package."""
+"""Headless Firefox over WebDriver BiDi, by a WebSocket of tornado, which Debian's python3-distributed needs, too."""
 
 from __future__ import annotations
 
-import base64
+import asyncio
 import contextlib
 import json
 import os
 import re
-import socket
 import subprocess
 import time
 from pathlib import Path
 from typing import Any, Dict, List
 
 from browser import Waiting
+from tornado.websocket import WebSocketClientConnection, websocket_connect
 
 WORDS = ["firefox-esr", "--headless", "--no-remote", "--remote-debugging-port", "0", "--profile"]
 PATIENCE = 120  # seconds in which the browser answers, also on a very busy machine
@@ -31,46 +31,6 @@ user_pref("toolkit.telemetry.reportingpolicy.firstRun", false);
 """
 
 
-class Socket:
-    """A connection by RFC 6455 to a browser of this machine, for texts."""
-
-    def __init__(self, port: int, path: str) -> None:
-        self.connection = socket.create_connection(("127.0.0.1", port), timeout=PATIENCE)
-        key = base64.b64encode(os.urandom(16)).decode()
-        lines = [f"GET {path} HTTP/1.1", f"Host: 127.0.0.1:{port}", "Upgrade: websocket"]
-        lines += ["Connection: Upgrade", f"Sec-WebSocket-Key: {key}", "Sec-WebSocket-Version: 13"]
-        self.connection.sendall("\r\n".join([*lines, "", ""]).encode())
-        self.stream = self.connection.makefile("rb")
-        status, *_ = iter(lambda: self.stream.readline().strip(), b"")
-        assert b" 101 " in status, status
-
-    def send(self, text: str) -> None:
-        """Sends a text, masked by one byte: Firefox ends if the mask is zero."""
-        octets = text.encode()
-        size = len(octets)
-        width = 1 if size < 126 else 2 if size < 1 << 16 else 8
-        length = bytes([0x80 | {1: size, 2: 126, 8: 127}[width]]) + size.to_bytes(width, "big") * (width > 1)
-        self.connection.sendall(b"\x81" + length + b"aaaa" + bytes(it ^ ord("a") for it in octets))
-
-    def receive(self) -> str:
-        """The next text. What is sent besides, such as a ping, has no bit of a text."""
-        whole, is_last = b"", False
-        while not is_last:
-            first, size = self._bytes(2)
-            if size > 125:
-                size = int.from_bytes(self._bytes(2 if size == 126 else 8), "big")
-            octets = self._bytes(size)
-            if first & 0x0F < 3:
-                whole, is_last = whole + octets, bool(first & 0x80)
-        return whole.decode()
-
-    def _bytes(self, size: int) -> bytes:
-        octets = self.stream.read(size)
-        if len(octets) < size:
-            raise EOFError("Firefox ended")
-        return octets
-
-
 class Firefox(Waiting):
     """One page in Firefox: the addresses that it asked for, and what it logged."""
 
@@ -86,7 +46,8 @@ class Firefox(Waiting):
         self.number = 0
         self.requests: List[str] = []
         self.log: List[Dict[str, Any]] = []
-        self.socket = Socket(self._port(), "/session")
+        self.loop = asyncio.new_event_loop()
+        self.socket = self.loop.run_until_complete(self._connected(f"ws://127.0.0.1:{self._port()}/session"))
         self.call("session.new", capabilities={})
         self.call("session.subscribe", events=["network.beforeRequestSent", "log.entryAdded"])
         self.context = self.call("browsingContext.getTree")["contexts"][0]["context"]
@@ -100,12 +61,18 @@ class Firefox(Waiting):
         text = self.log_file.read_text(encoding="utf-8", errors="replace")
         raise TimeoutError(f"Firefox has named no port: {text[-500:]}")
 
+    async def _connected(self, address: str) -> WebSocketClientConnection:
+        return await websocket_connect(address, max_message_size=1 << 30)
+
     def call(self, method: str, **parameters: Any) -> Dict[str, Any]:
         """Calls a method of the protocol, and returns its result."""
+        return self.loop.run_until_complete(asyncio.wait_for(self._answered(method, parameters), PATIENCE))
+
+    async def _answered(self, method: str, parameters: Dict[str, Any]) -> Dict[str, Any]:
         self.number += 1
-        self.socket.send(json.dumps({"id": self.number, "method": method, "params": parameters}))
-        while True:
-            answer = json.loads(self.socket.receive())
+        await self.socket.write_message(json.dumps({"id": self.number, "method": method, "params": parameters}))
+        while message := await self.socket.read_message():
+            answer = json.loads(message)
             if answer.get("method") == "network.beforeRequestSent":
                 self.requests.append(answer["params"]["request"]["url"])
             elif answer.get("method") == "log.entryAdded":
@@ -113,7 +80,8 @@ class Firefox(Waiting):
             elif answer.get("id") == self.number:
                 if answer["type"] == "error":
                     raise RuntimeError(f"{method}: {answer['error']}, {answer['message'][:500]}")
-                return answer["result"]
+                return dict(answer["result"])
+        raise EOFError("Firefox ended")
 
     def evaluate(self, expression: str) -> Dict[str, Any]:
         target = {"context": self.context}
@@ -136,10 +104,10 @@ class Firefox(Waiting):
         self.call("input.setFiles", context=self.context, element=shared, files=names)
 
     def end(self) -> None:
-        with contextlib.suppress(OSError, EOFError, RuntimeError):
+        with contextlib.suppress(Exception):  # it may have ended
             self.call("browser.close")
         try:
             self.process.wait(PATIENCE)
         finally:
             self.process.kill()
-            self.socket.connection.close()
+            self.loop.close()

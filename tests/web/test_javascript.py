@@ -1,15 +1,11 @@
 """The JavaScript module in node and in Chromium: each answer is that of the native library, which other tests judge."""
 
-import functools
 import hashlib
-import http.server
 import json
 import re
 import shutil
-import threading
 from pathlib import Path
 from random import Random
-from xml.etree import ElementTree
 
 import guard
 import npm
@@ -26,7 +22,7 @@ from small_blocks import long_form
 from small_packets import small_packets
 from test_jpeg_same import exif, iptc, picture
 from test_jpeg_same_extended import LEFT, SAME as EXTENDED
-from test_jpeg_xmp import packet as xmp_segment
+from jpeg_made import packet as xmp_segment
 
 HERE = Path(__file__).resolve().parent
 pytestmark = pytest.mark.xdist_group("web")
@@ -43,27 +39,22 @@ def digests(blocks):
     return [[str(kind), digest(data)] for kind, data in blocks]
 
 
-RDF, LANGUAGE = "{http://www.w3.org/1999/02/22-rdf-syntax-ns#}", "{http://www.w3.org/XML/1998/namespace}lang"
+RDF = "{http://www.w3.org/1999/02/22-rdf-syntax-ns#}"
+
+
+def of_value(value):
+    """A value of XMP, or a property, as JavaScript has it."""
+    if isinstance(value, exifnorm.XmpContainer):
+        return {"kind": value.kind, "members": [*map(of_value, value.members)]}
+    if isinstance(value, exifnorm.XmpStructure):
+        return {"kind": "structure", "properties": [*map(of_value, value.properties)]}
+    if isinstance(value, exifnorm.XmpProperty):
+        return {**value._asdict(), "value": of_value(value.value)}
+    return {"kind": "resource" if isinstance(value, exifnorm.XmpResource) else "text", **value._asdict()}
 
 
 def properties(packet):
-    """The properties of a packet, by the XML parser of Python over its normal form."""
-    return [property_of(element) for element in ElementTree.fromstring(exifnorm.xmp_normal(packet))[0][0]]
-
-
-def property_of(element):
-    namespace, name = element.tag[1:].split("}")
-    return {"namespace": namespace, "name": name, "value": value_of(element)}
-
-
-def value_of(element):
-    if RDF + "resource" in element.attrib:
-        return {"kind": "resource", "uri": element.attrib[RDF + "resource"]}
-    if RDF + "parseType" in element.attrib:
-        return {"kind": "structure", "properties": [property_of(inner) for inner in element]}
-    if len(element):
-        return {"kind": element[0].tag[len(RDF) :], "members": [value_of(member) for member in element[0]]}
-    return {"kind": "text", "text": element.text or "", "language": element.get(LANGUAGE, "")}
+    return [*map(of_value, exifnorm.xmp_properties(packet))]
 
 
 CALLS = {
@@ -165,35 +156,13 @@ def expected(requests):
     return [native(name, [blocks[number] for number in numbers]) for name, *numbers in asked]
 
 
-def judge(checks, requests, answers, expected):
-    blocks, asked = requests
+def test_each_answer_in_node(node, served, requests, expected, checks):
+    (blocks, asked), answers = requests, json.loads(node("answers.mjs", folder=served))
     assert len(answers) == len(expected)
     for (name, *numbers), answer, due in zip(asked, answers, expected):
         if answer != due:
             checks.equal(f"{name} of {[blocks[number][:60].hex() for number in numbers]}", answer, due)
     checks.check("each request was answered", len(answers) > 1000)
-
-
-def test_each_answer_in_node(node, served, requests, expected, checks):
-    judge(checks, requests, json.loads(node("answers.mjs", folder=served)), expected)
-
-
-class Quiet(http.server.SimpleHTTPRequestHandler):
-    extensions_map = {**http.server.SimpleHTTPRequestHandler.extensions_map, ".mjs": "text/javascript"}
-
-    def log_message(self, *_):
-        pass
-
-
-def test_each_answer_in_chromium(chromium, served, requests, expected, checks):
-    with http.server.ThreadingHTTPServer(("127.0.0.1", 0), functools.partial(Quiet, directory=str(served))) as server:
-        threading.Thread(target=server.serve_forever, daemon=True).start()
-        try:
-            chromium.open(f"http://127.0.0.1:{server.server_port}/empty.html")
-            answers = chromium.ask("import('./answers.mjs').then(async (module) => JSON.stringify(await module.answers()))")
-        finally:
-            server.shutdown()
-    judge(checks, requests, json.loads(answers), expected)
 
 
 def test_engine(node, module, session_folder):
@@ -293,20 +262,17 @@ def test_the_module_imports_nothing_and_is_small(wasm, node):
     assert node("-e", script, wasm / "exifnorm.wasm") == "0\n"
 
 
-def test_a_package_that_npm_installs(wasm, node, folder):
-    """Offline, from the file. Without npm, the archive is unpacked as npm does it."""
+def test_the_package_for_npm(wasm, node, folder):
+    """The archive is unpacked as npm does it."""
     packed = folder / "exifnorm-1.0.0.tgz"
     octets = npm.archive((wasm / "exifnorm.wasm").read_bytes(), "1.0.0", 1)
     assert octets == npm.archive((wasm / "exifnorm.wasm").read_bytes(), "1.0.0", 1), "the same arguments make the same bytes"
     packed.write_bytes(octets)
     user = folder / "user"
     user.mkdir()
-    if shutil.which("npm"):
-        run("npm", "install", "--offline", "--no-audit", "--no-fund", packed, folder=user, HOME=str(folder))
-    else:
-        (user / "node_modules").mkdir()
-        shutil.unpack_archive(packed, user / "node_modules")
-        (user / "node_modules" / "package").rename(user / "node_modules" / "exifnorm")
+    (user / "node_modules").mkdir()
+    shutil.unpack_archive(packed, user / "node_modules")
+    (user / "node_modules" / "package").rename(user / "node_modules" / "exifnorm")
     readme = (TOP / "javascript" / "README.md").read_text(encoding="utf-8")
     for name in ("before", "after"):
         shutil.copyfile(TOP / "samples" / name / "ceramics" / "2003-12-bowl.jpg", user / f"{name}.jpg")
@@ -321,9 +287,6 @@ def test_a_package_that_npm_installs(wasm, node, folder):
         required = re.sub(r'import (\{[^}]*\}) from ("[^"]*");', r"const \1 = require(\2);", example)
         (user / "example.cjs").write_text(required, encoding="utf-8")
         assert node("example.cjs", folder=user) == said[-1]
-    if shutil.which("npx") and (user / "node_modules" / ".bin").exists():
-        said_by_command = run("npx", "--offline", "exifnorm", "before.jpg", "after.jpg", folder=user, status=1, HOME=str(folder))
-        assert "Different metadata: 2 fields.\n" in said_by_command
     assert "different true\n" in said[0] and "IPTC:Caption-Abstract: Bowl, celadon glaze, 1820 -> Bowl, celadon glaze, 1280\n" in said[0]
     assert said[0].startswith(RUSSIAN.decode() + "\n")
     title = '{"kind":"Alt","members":[{"kind":"text","text":"Vase with two bands","language":"x-default"}]}'

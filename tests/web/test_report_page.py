@@ -8,16 +8,14 @@ import os
 import shutil
 import subprocess
 import sys
-from collections import Counter
 from pathlib import Path
 from typing import Any, Dict, Iterator, List, Tuple
 
 import pytest
 from browser import CONTRAST, Browser
 from made_blocks import BLOCKS, with_exif
-from made_files import app1, app1_xmp, exif, jpeg, xmp
+from made_files import app1, app1_xmp, data_set, exif, jpeg, with_record, xmp
 from studio import SMALL_JPEG
-from test_captions import data_set, with_record
 
 TOP = Path(__file__).resolve().parents[2]
 LONG = "Ein Gefäß aus Köln, zerbrochen und wieder geklebt, "
@@ -337,50 +335,23 @@ def printed(browser: Browser, report: Path) -> List[str]:
     return text.split("\f")[:-1]
 
 
-def depths_of(report: Path) -> List[float]:
-    """How far down each page there is something, as a share of its height, by the grey values that pdftoppm draws."""
-    octets = subprocess.run(["pdftoppm", "-r", "20", "-gray", report / "page.pdf"], stdout=subprocess.PIPE, check=True).stdout
-    depths = []
-    while octets:  # PGM: P5, width, height and 255, and then the points
-        (width, height), rest = map(int, octets.split(None, 3)[1:3]), octets.split(b"\n255\n", 1)[1]
-        rows = [rest[at : at + width] for at in range(0, width * height, width)]
-        depths.append(max(at for at, row in enumerate(rows) if min(row) < 200) / height)
-        octets = rest[width * height :]
-    return depths
+HEADS = "h2, h3:not(:last-child), h4, caption, thead"
 
 
 @pytest.mark.skipif(not shutil.which("pdftotext"), reason="pdftotext (package poppler-utils) is not installed")
-def test_on_paper_each_value_is_there_and_no_page_is_half_empty(browser: Browser, report: Path) -> None:
+def test_on_paper_each_value_is_there_and_no_heading_stands_alone(browser: Browser, report: Path) -> None:
     pages = printed(opened(browser, report, dark=True), report)
     letters = "".join("".join(pages).split())
     for number in range(24):
         for word in (f"new{number * number}", f"1998.{number}", f"Title{number}", f"captions/{number}.jpg"):
             assert word in letters, f"{word} isn't on paper"
     assert "exifnorm-picturesmend" in letters
-    depths = depths_of(report)
-    assert len(depths) == len(pages) and min(depths[:-1]) > 0.6, f"pages with little on them: {depths}"
-
-
-HEADS = "h2, h3, h4, caption, thead th:first-child"
-
-
-@pytest.mark.skipif(not shutil.which("pdftotext"), reason="pdftotext (package poppler-utils) is not installed")
-@pytest.mark.parametrize("page", ["page.html", "pages/changed-1.html", "pages/broken-1.html"])
-def test_on_paper_no_heading_stands_alone_at_the_foot(page: str, browser: Browser, report: Path) -> None:
-    """On each page something follows its last heading. What stands where differs by a few lines each time, so that no luck is needed."""
-    browser.open(f"file://{report}/{page}")
-    heads = browser.ask(
-        f"[...document.querySelectorAll('{HEADS}')].map((it, at) => (it.prepend(`HEAD${{at}}OF `), it.textContent.replace(/\\s/g, '')))"
-    )
-    alone = []
-    for lines in range(0, 12, 2):
-        browser.ask(f"document.querySelector('main').style.paddingTop = '{lines * 15}px'")
-        for number, text in enumerate(printed(browser, report), 1):
-            letters = "".join(text.split())
-            last = letters.rpartition("HEAD")[2].partition("OF")[0]
-            if last.isdigit() and not Counter(letters[letters.rindex(f"HEAD{last}OF") :]) - Counter(heads[int(last)]):
-                alone.append((lines, number, heads[int(last)]))
-    assert heads and alone == [], "headings without what they head"
+    lines = [sum(map(bool, it.split("\n"))) for it in pages]
+    assert len(pages) > 3 and min(lines[:-1]) > max(lines) // 4, f"pages with little on them: {lines}"
+    browser.call("Emulation.setEmulatedMedia", media="print")
+    broken = f"[...document.querySelectorAll('{HEADS}')].filter((it) => getComputedStyle(it).breakAfter !== 'avoid').length"
+    assert browser.ask(broken) == 0, "a heading may stand without what it heads"
+    browser.call("Emulation.setEmulatedMedia", media="")
 
 
 def test_what_changed_isnt_told_by_colour_alone(browser: Browser, report: Path) -> None:
