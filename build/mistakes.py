@@ -1,7 +1,7 @@
 """Small mistakes in the statements of Python sources: an operator, a constant, a name, a condition or a statement is another one or isn't there.
 
-What changes nothing by rule is left out: the order of a tuple that is only asked for its members, annotations, and defaults that every call
-gives.
+What changes nothing by rule is left out: the order of a tuple that is only asked for its members, annotations, names of type variables, how many
+results a function keeps, whether a class forbids changes, and defaults that every call gives.
 """
 
 from __future__ import annotations
@@ -161,7 +161,9 @@ def variants(node: ast.AST, known: Known) -> Iterator[ast.AST]:
 
 
 def is_type(node: ast.AST) -> bool:
-    """Whether an expression is a type, as in an alias."""
+    """Whether an expression is a type, as in an alias, or a decorator that changes no result."""
+    if isinstance(node, ast.Call):
+        return name_of(node.func) in ("TypeVar", "lru_cache", "dataclass")
     return isinstance(node, ast.Subscript) and name_of(node.value) in TYPES
 
 
@@ -197,6 +199,8 @@ def left_out(node: ast.stmt) -> Iterator[Tuple[ast.AST, str]]:
         yield node.test, f"not ({ast.unparse(node.test)})"
         if isinstance(node.body[0], (ast.Return, ast.Raise, ast.Continue, ast.Break)) and not node.orelse:
             yield node.test, "False"
+    elif isinstance(node, ast.Assign) and is_type(node.value):
+        return  # an alias, which only annotations have
     elif isinstance(node, (ast.Expr, ast.Assign, ast.AugAssign, ast.Raise, ast.Delete)):
         yield node, "pass"
     elif isinstance(node, ast.Return) and node.value and ast.unparse(node.value) != "None":

@@ -1,7 +1,7 @@
 """The LLVM module of the proved library: what the toolchain gives to its clang, for what compiles the library in another way.
 
 The toolchain builds only what is proved, from one module that it gives to clang and doesn't keep. So px_c is built again, over the proved
-libraries, with a toolchain folder whose clang also copies the module and its options. The archive that this makes must be that of
+libraries, with a toolchain folder whose clang also copies the module. The archive that this makes must be that of
 `make library`, byte for byte. Then the module is the library's own code. out/module/ keeps it, because building px_c takes about two
 minutes.
 """
@@ -22,7 +22,7 @@ from prove import NotBuilt, jobs, locked, say, waited
 
 CRATE = "px_c"
 CLANG = """#!/bin/sh
-cp module.bc {folder}/module.bc && printf '%s\\n' "$@" >{folder}/options || exit 1
+cp module.bc {folder}/module.bc || exit 1
 exec {clang} "$@"
 """
 
@@ -44,7 +44,7 @@ def as_text(clang: Path) -> list[str | Path]:
 
 
 def build(crates: Crates, archive: Path, folder: Path) -> None:
-    """Builds the library as `make library` does, and leaves its module and the options of clang in a folder."""
+    """Builds the library as `make library` does, and leaves its module in a folder."""
     with open(folder / "log", "w", encoding="utf-8") as log:
         compiler = Compiler(crates, archive.parent, log)
         words = compiler.words(CRATE, folder / archive.name, jobs())
@@ -59,7 +59,7 @@ def build(crates: Crates, archive: Path, folder: Path) -> None:
 
 
 def kept(crates: Crates) -> Path:
-    """The folder with `module.bc`, the module of the library that `make library` built, and `options`, those of clang, one a line."""
+    """The folder with `module.bc`, the module of the library that `make library` built."""
     archive = crates.top / "out" / "proved" / crates.product(CRATE)
     if not archive.exists():
         raise NotBuilt(f"{archive} is missing: call `make library`")
@@ -77,6 +77,5 @@ def put(crates: Crates, archive: Path, folder: Path) -> None:
         build(crates, archive, Path(making))
         finished = Path(making, "made")
         finished.mkdir()
-        for name in ("module.bc", "options"):
-            os.replace(Path(making, name), finished / name)
+        os.replace(Path(making, "module.bc"), finished / "module.bc")
         os.replace(finished, folder)

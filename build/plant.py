@@ -1,7 +1,7 @@
 #!/usr/bin/python3
 """Plants random mistakes in Python statements and lines of JavaScript, one at a time, and prints those that no test finds.
 
-  build/plant.py                                          in 100 statements that the made museum runs, with the museum and its laws
+  build/plant.py                                          in 100 statements that the made museum runs, with it, its laws and tables
   build/plant.py --since main --tests tests/pictures      in the statements that differ from main
   build/plant.py python/exifnorm --tests tests/library/test_package.py tests/library/test_fields.py
   build/plant.py javascript --tests tests/web/test_javascript.py tests/web/test_plain_words.py -k "not chromium"
@@ -39,7 +39,9 @@ TOP = Path(__file__).resolve().parent.parent
 CALL = "tests/pictures/test_museum.py::test_what_a_command_prints"
 LAW = "tests/pictures/test_museum_laws.py::test_processes_keep_what_one_keeps"
 SLOW = [f"{CALL}[mend --catalogue full mended --lossless]", LAW]  # tests of 10 seconds and more
-MUSEUM = [f"tests/pictures/test_{it}.py" for it in ("museum", "museum_laws", "museum_faults", "words_of_tables")]
+SLOW += [f"tests/pictures/test_format_laws.py::test_{it}" for it in ("changed_files", "one_changed_byte")]
+MODULES = "museum museum_laws museum_faults museum_limits museum_api museum_bytes words_of_tables format_laws functions own_texts sidecars"
+MUSEUM = [*(f"tests/pictures/test_{it}.py" for it in MODULES.split()), "tests/library/test_package.py::test_examples"]
 MUSEUM += [word for it in SLOW for word in ("--deselect", it)]
 IMPORTED = "hypothesis PIL.Image jinja2 xlsxwriter openpyxl".split()
 LEFT_OUT = shutil.ignore_patterns(".git", "__pycache__", "*.rlib", "stage", "wheel", "dist", "*.log", "plant")

@@ -14,7 +14,7 @@ import pytest
 
 Lines = Dict[str, Dict[str, List[int]]]  # by test and file; "" is what tests share: imports, and fixtures of the session
 QUICK = 0.4  # seconds of a test that is run for what it doesn't reach itself
-MOST = 12.0  # seconds of all tests that are run for a mistake, as they are under coverage, which takes half of them
+MOST = 24.0  # seconds of all tests that are run for a mistake, as they are under coverage, which takes half of them
 
 
 class Traced:
@@ -85,13 +85,14 @@ class Reached:
         return sorted(self.seconds, key=lambda it: self.seconds[it])
 
     def order(self, path: Path, lines: range, readers: Set[str]) -> List[str]:
-        """The tests to run for a mistake: those that reach it, or what it gives a value to; if it is in what tests share, then all quick ones
-        too. First is the quickest call of each command, then the next one of each, until they take as long as a mistake may."""
+        """The tests to run for a mistake: those that reach it, and then those that reach what it gives a value to; if it is in what tests share,
+        all quick ones too. First is the quickest call of each command, then the next one of each, until they take as long as a mistake may.
+        """
         own = self.of(path, lines)
         others = (readers - {""}) or {it for it, seconds in self.seconds.items() if seconds < QUICK} if "" in own else set()
         ranks, counts = {}, Counter[str]()
         for test in sorted((own | others) & {*self.seconds}, key=lambda it: self.seconds[it]):
-            ranks[test] = (counts[command_of(test)], self.seconds[test])
+            ranks[test] = (test not in own, counts[command_of(test)], self.seconds[test])
             counts[command_of(test)] += 1
         ordered = sorted(ranks, key=lambda it: ranks[it])
         ends = accumulate(self.seconds[it] for it in ordered)

@@ -55,11 +55,19 @@ class Store:
         except (FileNotFoundError, UnicodeDecodeError):
             return ""
 
+    def over(self, crate: str) -> list[str]:
+        """The crates whose products here a crate is built over."""
+        return self.crates.own(crate)
+
+    def sources(self, crate: str) -> list[str]:
+        """Sums of the scripts and of the sources that a crate's product is made from."""
+        return [scripts_sum(), self.crates.sum(crate)]
+
     def expected(self, crate: str) -> str:
         """The sum of the crate's current inputs."""
         version = self.version or "".join(self.noted(crate).splitlines()[2:3])
-        notes = [self.noted(it) for it in self.crates.own(crate)]
-        return hashlib.sha256(repr((version, scripts_sum(), self.crates.sum(crate), notes)).encode()).hexdigest()
+        notes = [self.noted(it) for it in self.over(crate)]
+        return hashlib.sha256(repr((version, *self.sources(crate), notes)).encode()).hexdigest()
 
     def is_noted(self, crate: str) -> bool:
         return self.noted(crate).partition("\n")[0] == self.expected(crate)
@@ -99,7 +107,7 @@ class Store:
         if self.product(crate).is_dir():
             remove(self.product(crate))
         os.replace(product, self.product(crate))
-        if expected == self.expected(crate) and all(map(self.noted, self.crates.own(crate))):
+        if expected == self.expected(crate) and all(map(self.noted, self.over(crate))):
             noting = self.making / f"{crate}.made-from"
             noting.write_text(f"{expected}\n{time.time_ns()}\n{self.version}\n", encoding="utf-8")
             os.replace(noting, self.note(crate))

@@ -1,5 +1,5 @@
 #!/usr/bin/env python3
-"""Prints the pages, the tables, the drawings and the parts of headers that are made from sources.
+"""Prints the pages, the tables and the parts of headers that are made from sources.
 
   packaging/pages.py            writes them
   packaging/pages.py --check    names those that differ from what it would write, and ends with 1
@@ -10,14 +10,11 @@ from __future__ import annotations
 import argparse
 import json
 import re
-import runpy
 import sys
 from pathlib import Path
 from typing import Any, Callable, Dict, Iterator, List, Sequence, Tuple
 
 import crates_page
-import drawings
-import formats_page
 import header
 import names
 import refusals_page
@@ -36,13 +33,8 @@ PAGES: Dict[str, Callable[[], str]] = {
     "crates/README.md": crates_page.page,
     "docs/REFUSALS.md": refusals_page.page,
     "docs/exifnorm-pictures.1": lambda: manual(),
-    "docs/catalogue.svg": drawings.catalogue,
-    "docs/letter.svg": drawings.letter,
-    "docs/one-form.svg": lambda: str(runpy.run_path(str(TOP / "docs/draw.py"))["page"]()),
-    "docs/refusal.svg": drawings.refusal,
-    "docs/trust.svg": drawings.trust,
 }
-WITH_TABLES = ("docs/CATALOGUE.md", "docs/COMPARED.md", "docs/FORMAT.md", "docs/JSON.md")
+WITH_TABLES = ("docs/CATALOGUE.md", "docs/FORMAT.md", "docs/JSON.md")
 CAUSES = TOP / "crates" / "px_bytes" / "src" / "causes.rt"
 # a comment that names a table, and the table
 MARKED = re.compile(r"(<!-- printed: ([\w-]+) -->\n\n)(?:\|.*\n)*")
@@ -200,8 +192,7 @@ def printed(page: str) -> str:
     """What a page is to have."""
     if page in PAGES:
         return PAGES[page]()
-    of_formats = {"formats": formats_page.blocks(), "parts": formats_page.parts(), "matrix": formats_page.matrix()}
-    known = {**of_formats, **of_objects(), **of_tables(), "causes": causes(CAUSES.read_text(encoding="utf-8"))}
+    known = {**of_objects(), **of_tables(), "causes": causes(CAUSES.read_text(encoding="utf-8"))}
     text = (TOP / page).read_text(encoding="utf-8")
     return MARKED.sub(lambda it: it[1] + known[it[2]], text)
 

@@ -4,7 +4,7 @@
   bench/packets/memory.py PROGRAM [PACKET ..]
 
 PROGRAM is one such as out/exifnorm. Each PACKET is a file with a packet; without any, packets of about
-480,000 bytes are made. The figures don't depend on the machine.
+360,000 to 480,000 bytes are made. The figures don't depend on the machine.
 """
 
 import argparse
@@ -44,12 +44,19 @@ def nested(inside: str, depth: int) -> str:
     return f"<d:a>{begin * depth}<r:Bag><r:li r:parseType='Resource'>{inside}</r:li></r:Bag>{end * depth}</d:a>"
 
 
+def tree(depth: int) -> str:
+    """Eight properties, in each of which are such properties: a row is copied into the one around it."""
+    inside = f" r:parseType='Resource'>{tree(depth - 1)}</d:" if depth else ""
+    return "".join(f"<d:{name}{inside}{name}>" if inside else f"<d:{name}/>" for name in "abcdefgh")
+
+
 # The name of a property in a form has its namespace
 PACKETS: Dict[str, bytes] = {
     "properties in no order": packet(numbered("<d:a{0}/>")),
     "a bag in no order": packet(f"<d:a><r:Bag>{numbered('<r:li>{0}</r:li>')}</r:Bag></d:a>"),
     "a namespace of 240 bytes": packet(numbered("<d:a{0}/>"), "d" * 240),
     "the same in 31 bags": packet(nested(numbered("<d:a{0}/>"), 31), "d" * 240),
+    "structures of eight": packet(tree(4), "d" * 240),
 }
 
 

@@ -3,6 +3,7 @@
 
   bench/pictures/over.py LIBRARY TREE [--pictures N] [--longest N]
   bench/pictures/over.py LIBRARY TREE --folder FOLDER [--folder FOLDER ..] [--rounds N]
+  bench/pictures/over.py LIBRARY TREE --further N [--folder FOLDER]
 
 LIBRARY is a folder such as out/lib, which both use. The instructions, which Valgrind counts, hardly depend on the machine: those of each
 command on the samples, and those of `index` on JPEG files that are made here, with captions of up to so many characters in IPTC and XMP. The
@@ -10,6 +11,9 @@ size is that of the catalogue of these files, which `catalogue export` writes as
 
 With folders of pictures it is `index` of these alone: its instructions, and its processor time with that of ExifTool, the median of so many
 rounds, in each of which both trees have a turn.
+
+With --further it is the export of a catalogue: the instructions for each further one of so many pictures, which are made as run.py makes them, or
+are those of a folder.
 """
 
 import argparse
@@ -30,6 +34,7 @@ sys.path[:0] = [str(TOP / "tests" / "pictures"), str(TOP / "tests" / "blocks"), 
 sys.dont_write_bytecode = True
 
 import made_files as made
+from run import put_pictures
 
 WORDS = "bowl vase celadon glaze museum the of and a with kiln harbour evening portrait market street archive photograph plate 1911".split()
 BOWL = "samples/{}/ceramics/2003-12-bowl.jpg"
@@ -118,6 +123,29 @@ def rows_of_folder(trees: Tuple[Tree, Tree], pictures: Path, rounds: int) -> Ite
     yield f"milliseconds of `index {pictures.name}`", other, this
 
 
+def export_of(tree: Tree, pictures: Path, count: int) -> float:
+    """The instructions of the export for each further one of so many pictures: without those for the first half of them."""
+    older = (tree.folder / "python" / "exifnorm_pictures" / "export" / "tables.py").exists()  # whose command was none of `catalogue`
+    costs = []
+    for number in (count // 2, count):
+        half = Path(f"{pictures}{number}")
+        if not half.exists():
+            put_pictures(str(half), number, str(pictures) if pictures.exists() else "")
+        (tree.folder / "catalogue").unlink(missing_ok=True)
+        tree.run("index", str(half), "--catalogue", "catalogue", "--jobs", "1", "--quiet")
+        words = ["export", "catalogue", "tables", "--no-look", "--quiet"]
+        costs.append(tree.instructions(*words if older else ["catalogue", *words], makes="tables"))
+    return (costs[1] - costs[0]) / (count - count // 2)
+
+
+def rows_of_export(trees: Tuple[Tree, Tree], folder: Path, count: int, named: Sequence[Path]) -> Iterator[Tuple[str, int, int]]:
+    """What was measured of exports, in the other tree and in this one."""
+    if named:
+        put_pictures(str(folder / "pictures"), count, str(named[0]))
+    other, this = [round(export_of(it, folder / "pictures", count)) for it in trees]
+    yield f"instructions of the export for each further one of {count:,} pictures", other, this
+
+
 def rows(trees: Tuple[Tree, Tree], folder: Path, count: int, longest: int) -> Iterator[Tuple[str, int, int]]:
     """What was measured, in the other tree and in this one."""
     for command, words in COMMANDS.items():
@@ -140,6 +168,7 @@ def main() -> None:
     words.add_argument("--pictures", type=int, default=500)
     words.add_argument("--longest", type=int, default=1900)
     words.add_argument("--folder", type=Path, action="append", default=[])
+    words.add_argument("--further", type=int, default=0)
     words.add_argument("--rounds", type=int, default=15)
     asked = words.parse_args()
     os.environ["EXIFNORM_LIBRARY"] = str((asked.library / "libexifnorm.so.1").resolve())
@@ -148,8 +177,12 @@ def main() -> None:
         folder = Path(name)
         trees = Tree(asked.tree.resolve(), folder / "other"), Tree(TOP, folder / "this")
         print("| Measured | The other tree | This one | Ratio |\n|---|---|---|---|", flush=True)
-        of_folders = (row for it in asked.folder for row in rows_of_folder(trees, it, asked.rounds))
-        for what, other, this in of_folders if asked.folder else rows(trees, folder, asked.pictures, asked.longest):
+        measured = rows(trees, folder, asked.pictures, asked.longest)
+        if asked.further:
+            measured = rows_of_export(trees, folder, asked.further, asked.folder)
+        elif asked.folder:
+            measured = (row for it in asked.folder for row in rows_of_folder(trees, it, asked.rounds))
+        for what, other, this in measured:
             print(f"| {what} | {other:,} | {this:,} | {this / other:.3f} |", flush=True)
 
 

@@ -4,8 +4,8 @@
   bench/pictures/run.py LIBRARY [--pictures N] [--folder FOLDER] [--counted N] [--rounds N]
 
 LIBRARY is a folder such as out/lib. The pictures are small JPEG files with Exif, IPTC and XMP, made here from a few bytes, or those of a
-folder; those of another format are PSD files by ImageMagick's convert. exiv2's library is left out where it or its header (Debian:
-libexiv2-dev) isn't installed. A time is the least of all rounds.
+folder, such as cameras.py makes; those of another format are PSD files by ImageMagick's convert. exiv2's library is left out where it or its
+header (Debian: libexiv2-dev) isn't installed. A time is the least of all rounds.
 """
 
 import argparse
@@ -220,10 +220,8 @@ def instructions(words: Sequence[str]) -> int:
 
 
 def by_four(folder: str, count: int) -> Iterator[ROW]:
-    """The instructions of `index` by four processes over those by one."""
-    there, catalogue = os.path.join(folder, f"by_four{count}"), os.path.join(folder, "four.catalogue")
-    os.mkdir(there)
-    make_pictures(there, count)
+    """The instructions of `index` by four processes over those by one, on the pictures that were counted."""
+    there, catalogue = os.path.join(folder, f"counted{count}"), os.path.join(folder, "four.catalogue")
     words = ["index", there, "--quiet", "--catalogue"]
     one = instructions(pictures(*words, f"{catalogue}1", "--jobs", "1"))
     *further, first = each_counted(pictures(*words, f"{catalogue}4", "--jobs", "4"))
@@ -232,15 +230,23 @@ def by_four(folder: str, count: int) -> Iterator[ROW]:
     yield f"instructions of `index` with four processes, over one ({count:,} JPEG files)", f"{four / one:.2f}", "1.15"
 
 
-def counted(folder: str, count: int) -> Iterator[ROW]:
+def put_pictures(folder: str, count: int, named: str) -> None:
+    """So many pictures in a new folder: made ones, or the first ones of another folder."""
+    os.mkdir(folder)
+    if not named:
+        make_pictures(folder, count)
+    for path in sorted(Path(named).rglob("*.jpg"))[:count] if named else []:
+        shutil.copy(path, folder)
+
+
+def counted(folder: str, count: int, named: str) -> Iterator[ROW]:
     """The instructions of `index`, of ExifTool, and of exiv2's library where it is installed, for the start and for each further picture."""
     costs: List[Tuple[int, ...]] = []
     exiv2 = exiv2_reader(folder)
     names = ["index", "exiftool -b -Exif", *["exiv2's library"] * bool(exiv2)]
     for number in (count // 5, count):
         there, catalogue = os.path.join(folder, f"counted{number}"), os.path.join(folder, f"counted{number}.catalogue")
-        os.mkdir(there)
-        make_pictures(there, number)
+        put_pictures(there, number, named)
         index = instructions(pictures("index", there, "--catalogue", catalogue, "--jobs", "1", "--quiet"))
         listed = Path(f"{there}.names")
         listed.write_text("".join(f"{it}\n" for it in sorted(Path(there).rglob("*.jpg"))), encoding="utf-8")
@@ -250,6 +256,9 @@ def counted(folder: str, count: int) -> Iterator[ROW]:
         each = (costs[1][column] - costs[0][column]) / (count - count // 5)
         start = costs[1][column] - each * count
         yield f"instructions of `{name}`", f"{each / 1e3:,.0f} thousand for a picture, {start / 1e6:,.0f} million for the start", ""
+    if exiv2:
+        mine, its = (costs[1][it] - costs[0][it] for it in (0, -1))
+        yield "instructions of `index` for a further picture, over exiv2's library", f"{mine / its:.2f}", "1.2" if named else "2.0"
 
 
 def main() -> None:
@@ -257,7 +266,7 @@ def main() -> None:
     words = argparse.ArgumentParser(description=__doc__, formatter_class=argparse.RawDescriptionHelpFormatter)
     words.add_argument("library")
     words.add_argument("--pictures", type=int, default=5000, help="JPEG files")
-    words.add_argument("--folder", default="", help="a folder with JPEG files to be timed in place of made ones")
+    words.add_argument("--folder", default="", help="a folder with JPEG files to be measured in place of made ones")
     words.add_argument("--counted", type=int, default=0, help="JPEG files whose instructions Valgrind counts; 0 leaves it out")
     words.add_argument("--rounds", type=int, default=3)
     asked = words.parse_args()
@@ -278,7 +287,7 @@ def main() -> None:
             make_pictures(compiled, 100)
             for jobs in ("1", "4"):  # which compiles the modules
                 cost(pictures("index", compiled, "--catalogue", f"{compiled}{jobs}", "--jobs", jobs, "--quiet"))
-            show(counted(folder, asked.counted))
+            show(counted(folder, asked.counted, asked.folder))
             show(by_four(folder, asked.counted))
 
 

@@ -25,7 +25,7 @@ import test_shards
 
 from exifnorm_pictures.catalogue import shards
 from exifnorm_pictures.scan import parts, shard_tasks
-from exifnorm_pictures.scan.batches import How
+from exifnorm_pictures.scan.walk import How
 
 Rows = Iterator[Tuple[str, str]]
 FOLDERS = 4  # with a catalogue each
