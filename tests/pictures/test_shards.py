@@ -686,7 +686,7 @@ def test_a_list_that_another_run_writes_between_two_looks(folders, called_lines,
     with monkeypatch.context() as patched:
         patched.setattr(parts.os, "listdir", listdir)
         assert called_lines("index", "p", "--shards", "shards", "--quiet")[0] == 0
-    assert len(rows(folders)) == 2
+    assert len(rows(folders)) == 5
 
 
 def test_a_file_system_without_locks_is_named(folders, called_lines, monkeypatch):
