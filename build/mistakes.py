@@ -1,7 +1,7 @@
 """Small mistakes in the statements of Python sources: an operator, a constant, a name, a condition or a statement is another one or isn't there.
 
 What changes nothing by rule is left out: the order of a tuple that is only asked for its members, annotations, names of type variables, how many
-results a function keeps, whether a class forbids changes, and defaults that every call gives.
+results a function keeps, whether a class forbids changes, and defaults that every call gives. What changes no answer has a reason beside it.
 """
 
 from __future__ import annotations
@@ -24,10 +24,16 @@ SWAPPED: Dict[type, Any] = {
 }
 SWAPPED.update({new: old for old, new in SWAPPED.items()})
 # Functions that ask a tuple only for its members, and what a type is made of
-MEMBERS = {"fromkeys", "frozenset", "set", "isinstance", "issubclass", "startswith", "endswith", "suppress"}
+MEMBERS = set("all any frozenset fromkeys isdisjoint isinstance issubclass set sorted suppress union".split())
+MEMBERS |= {"startswith", "endswith"}
 TYPES = set(
     "Any Callable ClassVar Dict FrozenSet Generic IO Iterable Iterator List Literal Mapping Optional Sequence Set Tuple Type Union".split()
 )
+TYPES |= {"dict", "frozenset", "list", "set", "tuple", "type"}
+# Why a mistake changes no answer
+SIZE = "a size of which tests show that it changes no answer"
+MESSAGE = "the message of an assertion"
+FREED = "what is freed sooner changes no answer"
 
 
 class Mistake(NamedTuple):
@@ -38,6 +44,7 @@ class Mistake(NamedTuple):
     span: slice
     text: str
     names: Set[str]  # what the statement gives a value to
+    equal: str = ""  # why it changes no answer
 
     def planted(self, source: bytes) -> bytes:
         return source[: self.span.start] + self.text.encode() + source[self.span.stop :]
@@ -52,6 +59,7 @@ class Known:
     """What all sources of the packages say about a name."""
 
     def __init__(self, sources: Iterable[bytes]) -> None:
+        self.sizes: Set[str] = set()  # the names of sizes that change no answer
         self.siblings: Dict[str, str] = {}
         self.calls: Dict[str, List[ast.Call]] = {}
         self.ordered: Set[str] = set()  # names whose order may matter
@@ -214,13 +222,27 @@ def statements(tree: ast.AST) -> Iterator[ast.stmt]:
             yield node
 
 
+def why_equal(statement: ast.stmt, node: ast.AST, sizes: Set[str]) -> str:
+    """Why a mistake in a statement changes no answer, in place of a node; empty if it may change one."""
+    if isinstance(statement, ast.Assert) and statement.msg and node in ast.walk(statement.msg):
+        return MESSAGE
+    is_size = names_of(statement) <= sizes if isinstance(statement, ast.Assign) else False
+    is_compared = isinstance(node, ast.Compare) and any(name_of(it) in sizes for it in ast.walk(node))
+    if (is_size and node is not statement) or is_compared:
+        return SIZE
+    if isinstance(statement, ast.Delete) and all(isinstance(it, ast.Name) for it in statement.targets):
+        return FREED
+    return ""
+
+
 def mistakes(path: Path, source: bytes, node: ast.stmt, members: Set[int], known: Known) -> List[Mistake]:
     """The mistakes in a statement; `members` are the nodes of its source of which only the members matter."""
     starts, names = [0, *accumulate(map(len, source.splitlines(keepends=True)))], names_of(node)
     is_unordered = isinstance(node, ast.Assign) and not names & known.ordered
     known.unordered = members | {id(node.value)} if is_unordered and isinstance(node, ast.Assign) else members
     made = [(it, f"({ast.unparse(new)})") for it in parts(node, known) for new in variants(it, known)]
-    return [Mistake(path, lines_of(node), span_of(it, starts), text, names) for it, text in (*made, *left_out(node))]
+    every = [(it, text, why_equal(node, it, known.sizes)) for it, text in (*made, *left_out(node))]
+    return [Mistake(path, lines_of(node), span_of(it, starts), text, names, why) for it, text, why in every]
 
 
 def span_of(node: Any, starts: List[int]) -> slice:

@@ -8,8 +8,8 @@
 
 What each test runs is found once, by python3-coverage. Each mistake is planted in a copy of the tree, and a forked process runs the tests that
 reach the statement, the quickest first, until one fails. A mistake that compiles to the same bytecode is no mistake, nor is one that doesn't
-compile; one that doesn't end in a minute isn't counted. Each other one that gets through asks for a picture or a call that the museum lacks,
-or for less code.
+compile; one that doesn't end in a minute isn't counted; one that by a rule changes no answer is printed with the reason, and isn't planted. Each
+other one that gets through asks for a picture or a call that the museum lacks, or for less code.
 """
 
 from __future__ import annotations
@@ -38,9 +38,9 @@ import trying
 TOP = Path(__file__).resolve().parent.parent
 CALL = "tests/pictures/test_museum.py::test_what_a_command_prints"
 LAW = "tests/pictures/test_museum_laws.py::test_processes_keep_what_one_keeps"
-SLOW = [f"{CALL}[mend --catalogue full mended --lossless]", LAW]  # tests of 10 seconds and more
-SLOW += [f"tests/pictures/test_format_laws.py::test_{it}" for it in ("changed_files", "one_changed_byte")]
+SLOW = [f"{CALL}[mend full mended --lossless]", LAW]  # one of 10 seconds, and one that starts processes
 MODULES = "museum museum_laws museum_faults museum_limits museum_api museum_bytes words_of_tables format_laws functions own_texts sidecars"
+MODULES += " coded_picture conflicts edits pairs parts plain_values trailers"
 MUSEUM = [*(f"tests/pictures/test_{it}.py" for it in MODULES.split()), "tests/library/test_package.py::test_examples"]
 MUSEUM += [word for it in SLOW for word in ("--deselect", it)]
 IMPORTED = "hypothesis PIL.Image jinja2 xlsxwriter openpyxl".split()
@@ -59,6 +59,13 @@ def changed_lines(since: str) -> Dict[Path, Set[int]]:
     return by_file
 
 
+def sizes() -> List[str]:
+    """The names of the sizes that a test gives other values, with which commands print the same."""
+    tree = ast.parse((TOP / "tests/pictures/test_museum_limits.py").read_bytes())
+    tables = {mistakes.name_of(it.targets[0]): it.value for it in tree.body if isinstance(it, ast.Assign)}
+    return [*ast.literal_eval(tables["SIZES"])]
+
+
 class Sources:
     """The sources of the packages, and where each name is."""
 
@@ -66,6 +73,7 @@ class Sources:
         self.known = known
         self.texts = {path.relative_to(TOP): path.read_bytes() for path in sorted((TOP / "python").rglob("*.py"))}
         self.of_names = mistakes.Known(self.texts.values())
+        self.sizes = [name.rsplit(".", 1) for name in sizes()]
         self.trees: Dict[Path, ast.AST] = {}
         self.places: Dict[str, List[tuple[Path, int]]] = {}
         for path, text in self.texts.items():
@@ -108,17 +116,24 @@ class Sources:
         """The mistakes of a place."""
         if is_script(path):
             return token_mistakes.mistakes(path, self.texts[path], place)
+        own = self.texts[path].decode()
+        for module, name in self.sizes:  # of this module, or of one that it is imported from
+            is_size = path.match(f"*/{module.replace('.', '/')}.py") or not re.search(rf"^{name}\b", own, re.M)
+            (self.of_names.sizes.add if is_size else self.of_names.sizes.discard)(name)
         return mistakes.mistakes(path, self.texts[path], place, mistakes.members_of(self.trees[path]), self.of_names)
 
     def chosen(self, wanted: Dict[Path, Optional[Set[int]]], chance: random.Random) -> Iterator[mistakes.Mistake]:
-        """A mistake in each place, in the order of chance, of those that change what runs."""
+        """A mistake in each place, in the order of chance, of those that change what runs; before it
+        those that are drawn and change no answer."""
         every = [(path, it) for path, lines in sorted(wanted.items()) for it in self.places_of(path, lines)]
         chance.shuffle(every)
         for path, place in every:
             several = self.at(path, place)
-            changing = (it for it in chance.sample(several, len(several)) if is_change(path, self.texts[path], it))
-            if mistake := next(changing, None):
-                yield mistake
+            for mistake in chance.sample(several, len(several)):
+                if is_change(path, self.texts[path], mistake):
+                    yield mistake
+                    if not mistake.equal:
+                        break
 
 
 def is_script(path: Path) -> bool:
@@ -160,6 +175,17 @@ def share(results: Counter[str]) -> str:
     return f"{through} of {count} got through ({100 * through / max(count, 1):.1f} %), {results[trying.ENDED]} didn't end"
 
 
+def changing(every: Iterator[mistakes.Mistake], count: int, sources: Sources) -> List[mistakes.Mistake]:
+    """The first ones that may change an answer. Those before them are printed with the reason why they don't."""
+    found: List[mistakes.Mistake] = []
+    while len(found) < count and (mistake := next(every, None)):
+        if mistake.equal:
+            print(f"not planted, {mistake.equal}: {mistake.words(sources.texts[mistake.path])}")
+        else:
+            found.append(mistake)
+    return found
+
+
 def print_all(chosen: List[mistakes.Mistake], sources: Sources, words: List[str], trees: List[Path]) -> None:
     """Prints what finds each mistake, or that it gets through, and the share of these by folder."""
     plants = [sources.plant(number, it) for number, it in enumerate(chosen)]
@@ -198,7 +224,7 @@ def main() -> None:
             raise SystemExit(f"the tests don't pass without a mistake:\n{wrong}")
         sources = Sources(reached.Reached(kept))
         chooser = random.Random(given.seed)
-        chosen = [it for it, _ in zip(sources.chosen(wanted, chooser), range(given.count))]
+        chosen = changing(sources.chosen(wanted, chooser), given.count, sources)
         print(f"{len(chosen)} statements that these tests run; --seed {given.seed} repeats them", flush=True)
         print_all(chosen, sources, given.tests, trees)
 

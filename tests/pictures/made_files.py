@@ -128,10 +128,10 @@ def chunk(kind, data, wrong=0):
     return struct.pack(">I", len(data)) + kind + data + struct.pack(">I", zlib.crc32(kind + data) ^ wrong)
 
 
-def png(*chunks, behind=b""):
+def png(*chunks, behind=b"", point=0):
     """A PNG of one grey point with these chunks in front of its data."""
     head = chunk(b"IHDR", struct.pack(">IIBBBBB", 1, 1, 8, 0, 0, 0, 0))
-    return b"\x89PNG\r\n\x1a\n" + head + b"".join(chunks) + chunk(b"IDAT", zlib.compress(b"\0\0")) + chunk(b"IEND", b"") + behind
+    return b"\x89PNG\r\n\x1a\n" + head + b"".join(chunks) + chunk(b"IDAT", zlib.compress(bytes([0, point]))) + chunk(b"IEND", b"") + behind
 
 
 def profile(kind, data):

@@ -611,6 +611,34 @@ def derivatives() -> Files:
     return {name: captioned(300 + number) for number, name in enumerate(names.split())}
 
 
+def alike() -> Files:
+    """Pictures of the same data, some of which look otherwise by what says how to decode them."""
+    plain, still, alpha, moves = picture(400), bytes(9), (b"VP8 ", b"pixels"), (b"ANIM", b"pixels")
+    letters = plain
+    for names in (b'%b"\0%b\x11\1%b\x11\1', b"%b\0%b\x11%b\x11"):  # of components, in the frame and in the scan
+        letters = letters.replace(names % (b"\1", b"\2", b"\3"), names % (b"R", b"G", b"B"))
+    red, yellow = (jpeg(segment(0xEE, b"Adobe\0d\0\0\0\0" + transform), base=picture(401)) for transform in (b"\0", b"\1"))
+    jpegs = {"plain": plain, "letters": letters, "red": red, "yellow": yellow}
+    webps = {
+        "alpha": ((b"VP8X", b"\x10" + still), (b"ALPH", b"a"), alpha),
+        "alpha-lost": ((b"VP8X", b"\0" + still), (b"ALPH", b"a"), alpha),
+        "alpha-other": ((b"VP8X", b"\x10" + still), (b"ALPH", b"b"), alpha),
+        "lossless": ((b"VP8L", b"\x2f\0\0\0\x10"),),
+        "lossless-lost": ((b"VP8X", b"\0" + still), (b"VP8L", b"\x2f\0\0\0\x10")),
+        "lossless-opaque": ((b"VP8X", b"\0" + still), (b"VP8L", b"\x2f\0\0\0\0")),
+        "moves": ((b"VP8X", b"\2" + still), moves),
+        "moves-wide": ((b"VP8X", b"\2\0\0\0\1" + still[4:]), moves),
+        "moves-with-metadata": ((b"VP8X", b"\x0e" + still), moves),
+    }
+    return {
+        **{f"{name}.jpg": it for name, it in jpegs.items()},
+        **{f"{name}-without-jfif.jpg": it.replace(plain[2:20], b"") for name, it in jpegs.items()},
+        **{f"{name}.webp": webp(*chunks) for name, chunks in webps.items()},
+        **{f"{number}.heic": heif(PICTURE, PICTURE, primary=number) for number in (1, 2)},
+        **{f"{number}.png": png(point=number) for number in (1, 2)},
+    }
+
+
 def after() -> Files:
     """The clock an hour later, a cut and a fault in front of credentials, another second picture, a MakerNote that has moved."""
     return {

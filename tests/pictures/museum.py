@@ -100,6 +100,7 @@ def make(folder):
     made_museum.put("edits/masters", made_museum.masters())
     made_museum.put("edits/web", made_museum.derivatives())
     made_museum.put("edits/spoiled", made_museum.spoiled())
+    made_museum.put("edits/alike", made_museum.alike())
     put_bag(folder / "bag")
 
 

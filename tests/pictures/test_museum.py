@@ -152,6 +152,8 @@ CALLS = {
         same full --xlsx same.xlsx
         index archive/formats --catalogue formats --pixels --jobs 1 --quiet
             same formats --kind pixels
+        index edits/alike --catalogue alike --pixels --jobs 1 --quiet
+            same alike --kind pixels
         same archive
         same
         same nowhere

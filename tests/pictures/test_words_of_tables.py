@@ -15,6 +15,7 @@ from exifnorm_pictures.cli.commands.verify import _READERS
 from exifnorm_pictures.comparison.same import group
 from exifnorm_pictures.fields import rules
 from exifnorm_pictures.fields.labels import LABELS, fields_by_label
+from exifnorm_pictures.model import budgets
 from exifnorm_pictures.model.budgets import LIMITS
 from exifnorm_pictures.model.found import XMP
 from exifnorm_pictures.model.texts import Result, Word
@@ -40,6 +41,11 @@ def test_each_row(golden):
     rows += [("status of", it, status_of_results(Counter([it]))) for it in Result if it not in (Result.ABSENT, Result.LEFT_OUT)]
     rows += [("sums", *it) for it in _READERS.items()]
     rows += [("limit", word, f"{number:,}") for word, number in LIMITS.items()]
+    rows += [
+        ("budget", word, f"{number:,}")
+        for word, number in vars(budgets).items()
+        if word.isupper() and word[0] != "_" and not isinstance(number, (str, dict))
+    ]
     rows += [("label", it.word, it.exif, it.iptc, it.xmp, it.limit, it.is_list) for it in LABELS]
     rows += [("fields of", word, *fields) for word, fields in fields_by_label().items()]
     rows += [
