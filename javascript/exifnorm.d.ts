@@ -140,7 +140,7 @@ export const ready: Promise<void>;
 
 /**
  * The value of a field: a number, a text, bytes, or several as an array; null for a fraction with the denominator 0. A date is a text as
- * ISO 8601 has it, without a zone where the field has none. A structure of XMP is an object.
+ * ISO 8601 has it, without a zone where the field has none; one that no calendar has is the text of the field. A structure of XMP is an object.
  */
 export type Value = string | number | boolean | null | Uint8Array | Value[] | { [name: string]: Value };
 
@@ -176,7 +176,9 @@ export interface Picture {
    * caption or a comment that the camera or a program writes by itself is in `texts` alone.
    */
   captions: Record<string, Caption[]>;
-  /** When it was taken, as "2019-03-12T11:20:45", with its part of a second and its zone if they are there. */
+  /**
+   * When it was taken, as "2019-03-12T11:20:45", with its part of a second and its zone if they are there: by Exif, or else by XMP or IPTC.
+   */
   taken: string | null;
   /** Where, in degrees (north and east are positive) and metres. */
   position: { latitude: number; longitude: number; altitude: number | null } | null;

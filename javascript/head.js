@@ -37,16 +37,17 @@ function misplaced(kind, data) {
 }
 
 /** A block or a packet with its refusal, if it is refused; and with the form of a packet. A packet in a rare form has a refusal, too. */
-function judged(engine, { kind, data, part = "", note = null }) {
+function judged(engine, one) {
+  const block = { part: "", note: null, refusal: null, ...one }, { kind, data } = block;
   try {
-    if (kind === "xmp") return { kind, data, part, note, form: engine.xmpNormalise(inUtf8(data)), refusal: null };
+    if (kind === "xmp") return { ...block, form: engine.xmpNormalise(inUtf8(data)) };
     const cause = misplaced(kind, data);
-    if (cause) return { kind, data, part, note, refusal: { cause, offset: 0, isRare: false } };
+    if (cause) return { ...block, refusal: { cause, offset: 0, isRare: false } };
     engine.check(data);
-    return { kind, data, part, note, refusal: null };
+    return block;
   } catch (error) {
     if (!(error instanceof Refused)) throw error;
-    return { kind, data, part, note, refusal: { cause: error.cause, offset: error.offset, isRare: error.isRare ?? false } };
+    return { ...block, refusal: { cause: error.cause, offset: error.offset, isRare: error.isRare ?? false } };
   }
 }
 
@@ -141,10 +142,10 @@ function jpegHead(engine, bytes, source) {
   const extended = extend(blocks.filter(({ kind }) => kind === "xmp"), pieces, judge) ? [] : [new Uint8Array(0), ...pieces]; // also if it is missing
   const others = unknownIn(parts, bytes);
   const resources = inResources.hasXmp ? parts.filter(({ kind }) => kind === "photoshop").map(dataOf) : [];
-  return { format: "JPEG", bytes, blocks, pieces, further: { extended, resources }, others, unread: engine.jpegUnread(bytes), notRead: [...more.notRead, ...trailers, ...inResources.notRead, ...reached(blocks)] };
+  return { format: "JPEG", bytes, blocks, pieces, further: { extended, resources }, others, unread: engine.jpegUnread(bytes), digest: inResources.digest, notRead: [...more.notRead, ...trailers, ...inResources.notRead, ...reached(blocks)] };
 }
 
-const NOTHING = { bytes: null, blocks: [], pieces: [], further: { extended: [], resources: [] }, others: [], unread: null, notRead: [] };
+const NOTHING = { bytes: null, blocks: [], pieces: [], further: { extended: [], resources: [] }, others: [], unread: null, digest: "", notRead: [] };
 
 /** Why a picture can't be read. */
 export const problem = (name, more = {}) => ({ ...NOTHING, format: more.format ?? "", problem: { name, ...more } });
@@ -154,9 +155,9 @@ function otherHead(engine, source) {
   try {
     const found = readFormat(engine, source);
     if (!found?.blocks) return problem(source.size ? "format" : "empty", { format: found?.format ?? "" });
-    const [blocks] = judgedAll(engine, found.blocks), { format, notRead } = found;
+    const [blocks] = judgedAll(engine, found.blocks), { format, notRead, digest = "" } = found;
     const areRead = extend(blocks.filter(({ kind }) => kind === "xmp"), [], null);
-    return { ...NOTHING, format, blocks, notRead: [...notRead, ...reached(blocks)], further: { extended: areRead ? [] : [new Uint8Array(0)], resources: [] } };
+    return { ...NOTHING, format, blocks, digest, notRead: [...notRead, ...reached(blocks)], further: { extended: areRead ? [] : [new Uint8Array(0)], resources: [] } };
   } catch (error) {
     if (error instanceof Broken) return problem("broken", { format: error.format, why: error.message });
     throw error;

@@ -4,7 +4,7 @@
  * @module
  */
 import { HeadRefused } from "./engine.js";
-import { Broken, MOST_DIGESTED, Parts, bareExif, latin, left, startsWith } from "./parts.js";
+import { Broken, MOST_DIGESTED, Parts, bareExif, digestIn, latin, left, startsWith } from "./parts.js";
 import tables from "./tables.js";
 
 const MOST_PARTS = tables.limits.segments, MOST_HEAD = 1 << 22, LAST = 64;
@@ -77,10 +77,13 @@ function headAt(engine, file, start, end) {
   }
 }
 
-/** Of Photoshop's resources in a head whether they have XMP, which other programs read, and the bytes behind the last whole one of each run. */
+/**
+ * Of Photoshop's resources in a head whether they have XMP, which other programs read, the bytes behind the last whole one of each run, and the
+ * digest of IPTC that Photoshop noted.
+ */
 export function resourcesOf(engine, parts, dataOf) {
   const runs = [], notRead = [];
-  let hasXmp = false;
+  let hasXmp = false, digest = "";
   for (const part of parts.filter(({ kind }) => kind === "photoshop")) {
     if (part.begins) runs.push([]);
     runs.at(-1).push(dataOf(part));
@@ -92,9 +95,10 @@ export function resourcesOf(engine, parts, dataOf) {
     const found = engine.photoshopResources(whole, tables.limits.Photoshop_resources), last = found.at(-1);
     const rest = whole.slice(last ? last.start + last.size + last.size % 2 : 0);
     hasXmp ||= found.some(({ number, size }) => number === XMP_RESOURCE && size > 0);
+    digest ||= digestIn(found, whole);
     if (rest.some(Boolean)) notRead.push(left("bytes behind the Photoshop resources", rest));
   }
-  return { hasXmp, notRead };
+  return { hasXmp, notRead, digest };
 }
 
 /** The blocks of a further picture, and what of it isn't read. */

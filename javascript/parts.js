@@ -5,7 +5,7 @@ import tables from "./tables.js";
 const WINDOW = 1 << 16, MOST = 1 << 27, MOST_READS = 200_000;
 export const MOST_DIGESTED = 1 << 26; // bytes of a part that isn't read, of which two are compared
 const EXIF_MARK = [0x45, 0x78, 0x69, 0x66, 0, 0];
-const IPTC = 0x0404, EXIF = 0x0422, MORE_EXIF = 0x0423, XMP = 0x0424;
+const IPTC = 0x0404, EXIF = 0x0422, MORE_EXIF = 0x0423, XMP = 0x0424, DIGEST = 0x0425;
 
 /** A file doesn't follow its format, so that nobody knows which blocks it has. */
 export class Broken extends Error {}
@@ -72,18 +72,25 @@ export class Parts {
   }
 }
 
-/** The blocks in Photoshop's resources. */
+/** The digest of IPTC as Photoshop noted it in some resources, as `md5` writes it; empty if there is none. */
+export function digestIn(resources, bytes) {
+  const { start, size } = resources.find(({ number, size }) => number === DIGEST && size) ?? { start: 0, size: 0 };
+  const octets = bytes.subarray(start, start + Math.min(size, 16));
+  return Array.from(octets, (octet) => octet.toString(16).padStart(2, "0")).join("").toUpperCase();
+}
+
+/** The blocks in Photoshop's resources, and the digest there. */
 export function inResources(engine, bytes) {
-  const blocks = [], notRead = [];
+  const blocks = [], notRead = [], resources = engine.photoshopResources(bytes, tables.limits.Photoshop_resources);
   let end = 0;
-  for (const { number, start, size } of engine.photoshopResources(bytes, tables.limits.Photoshop_resources)) {
+  for (const { number, start, size } of resources) {
     const data = bytes.slice(start, start + size);
     end = start + size + size % 2;
-    if (number === IPTC) blocks.push({ kind: "iptc", data });
+    if (number === IPTC) blocks.push({ kind: "iptc", data, isResource: true });
     else if (number === EXIF) blocks.push({ kind: "exif", data: bareExif(data) });
     else if (number === XMP) blocks.push({ kind: "xmp", data });
     else if (number === MORE_EXIF && size) notRead.push(left("Photoshop resource 0423", data));
   }
   if (bytes.subarray(end).some((octet) => octet)) notRead.push(left("bytes behind the Photoshop resources", bytes.subarray(end)));
-  return { blocks, notRead };
+  return { blocks, notRead, digest: digestIn(resources, bytes) };
 }

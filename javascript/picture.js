@@ -2,10 +2,11 @@
 import { headOfFile, noteDoubt, verdict } from "./head.js";
 import { NotRead, Refused } from "./engine.js";
 import { nameOf } from "./listing.js";
+import { md5 } from "./md5.js";
 import { Broken } from "./parts.js";
 import { byPlace, cameraOf, captionsOf, firstFields, isValid, pairsOf, plainOf, rowsOf, valuesOf } from "./rows.js";
 import tables from "./tables.js";
-import { valueOf } from "./values.js";
+import { dateOf, isoDate, valueOf } from "./values.js";
 import { inUtf8, xmpProperties } from "./xmp.js";
 import { plainXmp, shownName } from "./xmp_values.js";
 
@@ -30,6 +31,7 @@ const MADE = {
   Integer: integer, Rational: rational, Coordinate: coordinate, Number: (text) => integer(text) === text ? rational(text) : integer(text),
   Real: (text) => /^[+-]?(?:\d{1,300}(?:\.\d{0,300})?|\.\d{1,300})$/.test(text) ? Number(text) : text,
   Boolean: (text) => ({ True: true, False: false })[text] ?? text,
+  Date: (text) => isoDate(text) ?? text,
 };
 
 /** The value of a property: by the type that its standard gives it, otherwise a text; of alternatives the default one; an array; or an object. */
@@ -64,12 +66,28 @@ function positionOf(fields) {
   return { latitude, longitude, altitude: typeof altitude === "number" ? Number(below) === 1 ? -altitude : altitude : null };
 }
 
-/** When a picture was taken, as ISO 8601 has it. */
-function takenOf(fields) {
-  const when = fields["ExifIFD:DateTimeOriginal"], part = fields["ExifIFD:SubSecTimeOriginal"], zone = fields["ExifIFD:OffsetTimeOriginal"];
-  if (typeof when !== "string" || !/^\d{4}-\d\d-\d\dT/.test(when)) return null;
-  const isZone = typeof zone === "string" && /^(?:Z|[+-](?:[01]\d|2[0-3]):[0-5]\d)$/.test(zone.trim());
-  return when + (typeof part === "string" && /^\d+$/.test(part.trim()) ? `.${part.trim()}` : "") + (isZone ? zone.trim() : "");
+/** The date of a property, as ISO 8601 has it; null of one that has none. */
+function dateOfProperty(key, { kind, language, text }) {
+  return kind === "text" && !language && tables.types[key] === "Date" ? isoDate(text) : null;
+}
+
+/** Whether a program that doesn't write XMP has changed the IPTC since Photoshop noted its digest. */
+function isIptcChanged({ blocks, digest }) {
+  const records = blocks.filter(({ kind }) => kind === "iptc");
+  const record = records.find(({ isResource }) => isResource) ?? records[0];
+  return Boolean(digest && record) && md5(record.data) !== digest;
+}
+
+/** When a picture was taken, as ISO 8601 has it, by its fields and those that are dates: in Exif, or else in XMP or IPTC. */
+function takenOf(fields, dates, isChanged) {
+  const texts = ["SubSecTimeOriginal", "OffsetTimeOriginal"].map((name) => fields[`ExifIFD:${name}`]);
+  const [part, zone] = texts.map((text) => typeof text === "string" ? text.trim() : "");
+  const when = dates["ExifIFD:DateTimeOriginal"], ends = [`.${part}${zone}`, `.${part}`, zone, ""];
+  const ofExif = ends.map((end) => isoDate(when + end)).find(Boolean);
+  const ofXmp = ["exif:DateTimeOriginal", "photoshop:DateCreated"].map((key) => dates[`XMP-${key}`]);
+  const [day, clock] = ["DateCreated", "TimeCreated"].map((name) => dates[`IPTC:${name}`]);
+  const ofIptc = day && clock && `${day}T${clock}`, others = isChanged ? [ofIptc, ...ofXmp] : [...ofXmp, ofIptc];
+  return [ofExif, ...others].find((date) => date?.includes("T")) ?? null;
 }
 
 // ---- one picture
@@ -115,17 +133,29 @@ function inPacketOrder(engine, block) {
 
 /** The picture of a head. */
 function ofHead(engine, head) {
-  const fields = Object.create(null), texts = Object.create(null), set = (name, value, text) => {
+  const [fields, texts, dates] = [0, 1, 2].map(() => Object.create(null));
+  const set = (name, value, text, date) => {
     if (name in fields) return; // of an earlier block
     fields[name] = value;
     texts[name] = text;
+    dates[name] = date;
   };
   for (const block of head.blocks.filter(isValid)) {
-    if (block.kind === "xmp") for (const [key, value, shown] of inPacketOrder(engine, block)) set(shownName(key), xmpValue(key, shown), plainXmp(value));
-    else for (const group of byPlace(firstFields(engine, block)).values()) set(nameOf(group[0]), group.length > 1 ? group.map(valueOf) : valueOf(group[0]), plainOf(group));
+    if (block.kind === "xmp") {
+      for (const [key, value, shown] of inPacketOrder(engine, block)) set(shownName(key), xmpValue(key, shown), plainXmp(value), dateOfProperty(key, value));
+    } else {
+      for (const group of byPlace(firstFields(engine, block)).values()) {
+        const value = group.length > 1 ? group.map(valueOf) : valueOf(group[0]);
+        set(nameOf(group[0]), value, plainOf(group), dateOf(group[0]));
+      }
+    }
   }
   const blocks = head.blocks.map(({ kind, name, data }) => ({ kind, name, data: data.slice() }));
-  return { format: head.format, fields: { ...fields }, texts: { ...texts }, captions: allCaptions(engine, head), taken: takenOf(fields), position: positionOf(fields), blocks, refusals: refusalsOf(head), notRead: notReadOf(head) };
+  const taken = takenOf(fields, dates, isIptcChanged(head)), refusals = refusalsOf(head);
+  return {
+    format: head.format, fields: { ...fields }, texts: { ...texts }, captions: allCaptions(engine, head), taken,
+    position: positionOf(fields), blocks, refusals, notRead: notReadOf(head),
+  };
 }
 
 // ---- where the bytes are

@@ -6,7 +6,7 @@ import { KINDS, KIND_NAMES, mayHide } from "./head.js";
 import { fieldsOf, nameOf, orderOf } from "./listing.js";
 import { isOwn } from "./own.js";
 import tables from "./tables.js";
-import { guessed, plain, toldApart } from "./values.js";
+import { asciiOf, guessed, plain, toldApart } from "./values.js";
 import { inOrder, keyOf, plainXmp, shownExactly, shownName, textsIn } from "./xmp_values.js";
 
 export const MOST_FIELDS = 20_000; // of a block, that are listed; so many captions, too
@@ -130,25 +130,69 @@ export function captionsOf(engine, block, camera) {
 const octetsBeyond = ({ octets }) => !!octets && octets.some((octet) => octet > 127);
 
 function allCaptionsOf(engine, block) {
-  const captions = [];
-  if (!isValid(block)) return captions;
-  if (block.kind === "xmp") {
-    for (const [key, value] of valuesOf(block)) {
-      const label = Object.hasOwn(tables.labels, key) ? tables.labels[key] : "";
-      if (!label) continue;
-      const texts = textsIn(value).map((text) => text.trim() || EMPTY);
-      captions.push(...texts.map((text) => ({ label, text: label === DATE ? text.replaceAll("T", " ") : text, name: shownName(key) })));
-    }
-    return captions;
+  if (!isValid(block)) return [];
+  if (block.kind === "xmp") return captionsOfPacket(block);
+  const fields = firstFields(engine, block).filter(({ octets }) => octets);
+  return block.kind === "exif" ? captionsOfExif(byTag(fields)) : captionsOfIptc(fields);
+}
+
+function captionsOfPacket(block) {
+  return [...valuesOf(block)].filter(([key]) => Object.hasOwn(tables.labels, key)).flatMap(([key, value]) => {
+    const label = tables.labels[key], texts = textsIn(value).map((text) => text.trim() || EMPTY);
+    return texts.map((text) => ({
+      label, text: label === DATE ? text.replaceAll("T", " ") : text, name: shownName(key),
+    }));
+  });
+}
+
+// The tags with a part in a label whose directory is that of Exif; of the others it is the main one
+const OF_EXIF = ["9003", "9011", "9286", "9291"];
+
+/** The fields of Exif by their tags. Some programs write a field into the other directory. */
+function byTag(fields) {
+  const found = new Map();
+  for (const field of fields.filter(({ where }) => where === "main" || where === "exif")) {
+    const isAtHome = (field.where === "exif") === OF_EXIF.includes(field.key);
+    if (isAtHome || !found.has(field.key)) found.set(field.key, field);
   }
-  const fields = firstFields(engine, block), isDeclared = fields.some(({ where, key, raw }) => where === "iptc" && key === "1:90" && raw === "1b2547");
-  for (const field of fields) {
-    const label = labelOf(field);
-    if (!label) continue;
-    const isGuess = field.where === "iptc" && !isDeclared && octetsBeyond(field);
-    captions.push({ label, text: plain(field), name: nameOf(field), ...isGuess && { isGuess } });
-  }
-  return captions;
+  return found;
+}
+
+function captionsOfExif(fields) {
+  const labelled = (key) => tables.labels[`${OF_EXIF.includes(key) ? "exif" : "main"} ${key}`];
+  return [...fields].filter(([key]) => labelled(key)).map(([key, field]) => ({
+    label: labelled(key), text: key === "9003" ? dateOfExif(fields) : plain(field), name: nameOf(field),
+  }));
+}
+
+/** The date of Exif with its part of a second and its zone, if they are there. */
+function dateOfExif(fields) {
+  const [taken, part, zone] = ["9003", "9291", "9011"].map((key) => asciiOf(fields.get(key)));
+  const more = /^\d+$/.test(part) ? `.${part}` : "", ahead = /^(?:Z|[+-]\d\d:\d\d)$/.test(zone) ? zone : "";
+  const text = taken.slice(0, 10).replaceAll(":", "-") + taken.slice(10) + more + ahead;
+  return /[^ :0.-]/.test(text) ? text : EMPTY;
+}
+
+function captionsOfIptc(fields) {
+  const isDeclared = fields.some(({ key, raw }) => key === "1:90" && raw === "1b2547");
+  const first = (number) => fields.find(({ key }) => key === number), day = first("2:55");
+  const labelled = fields.filter((field) => labelOf(field) && (field.key !== "2:55" || field === day));
+  return labelled.map((field) => {
+    const isGuess = field !== day && !isDeclared && octetsBeyond(field);
+    const text = field === day ? dateOfIptc(day, first("2:60")) : plain(field);
+    return { label: labelOf(field), text, name: nameOf(field), ...isGuess && { isGuess } };
+  });
+}
+
+const CLOCK = /^(\d\d)(\d\d)(\d\d(?:\.\d+)?)(?:([+-]\d\d)(\d\d))?$/;
+
+/** The date of IPTC with its time, if it is there. */
+function dateOfIptc(day, time) {
+  const date = asciiOf(day).replace(/^(\d{4})(\d\d)(\d\d)$/, "$1-$2-$3"), clock = asciiOf(time);
+  const [, hour, minute, second, ahead, more] = CLOCK.exec(clock) ?? [];
+  const written = hour ? `${hour}:${minute}:${second}${ahead ? `${ahead}:${more}` : ""}` : clock;
+  const text = date + (/^\d{6}/.test(clock) ? ` ${written}` : "");
+  return /[^ :0+-]/.test(text) ? text : EMPTY;
 }
 
 /** The captions of one head: for each label its texts in Exif, IPTC and XMP, beside each other. */

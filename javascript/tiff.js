@@ -44,6 +44,7 @@ export function readTiff(parts, engine) {
         const inside = inResources(engine, data);
         add(...inside.blocks);
         found.notRead.push(...inside.notRead);
+        found.digest ||= inside.digest;
       } else if (entry.tag === LAYERS && entry.size > 4) found.notRead.push(left("Photoshop's layers", directories.placeOf(entry) && parts.short(...directories.placeOf(entry))));
       else if (isPrivate(entry)) found.notRead.push(left(`what tag ${entry.tag.toString(16)} leads to`, entry.tag === ORIGINAL ? directories.bytesOf(entry) : null));
       else if (!PIXELS.includes(entry.tag)) {

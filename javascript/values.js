@@ -60,6 +60,13 @@ export function guessed(octets) {
   return eitherShown(withoutEnd(octets, isBlank));
 }
 
+/** The text of a field in ASCII, without the blanks around it; empty if there is no field. */
+export function asciiOf(field) {
+  const octets = withoutEnd(field?.octets ?? new Uint8Array(0), isBlank);
+  const text = Array.from(octets, (octet) => octet < 128 ? String.fromCharCode(octet) : "\ufffd").join("");
+  return text.replace(/^[\0 ]+/, "");
+}
+
 const isComment = ({ where, key }) => key === "9286" || where === "gps" && (key === "001b" || key === "001c");
 const isWideText = ({ where, key }) => where === "main" && tables.wideTexts.includes(key);
 
@@ -432,8 +439,48 @@ function numberOfWord(word) {
 function datasetValue(field) {
   const { key, octets } = field;
   if (IIM[key] === iptcNumber) return octets.length === 2 ? octets[0] * 256 + octets[1] : octets;
-  if (IIM[key] === iptcDate || IIM[key] === iptcTime) return RULES.iptc[key](field)?.replace(UNKNOWN, "") || guessedWhole(octets);
-  return isText(field) && key !== "1:90" ? guessedWhole(octets) : octets;
+  return isText(field) && key !== "1:90" ? dateOf(field) ?? guessedWhole(octets) : octets;
+}
+
+const MOMENT =
+  /^(\d{4})-(\d\d)-(\d\d)(?:T(\d\d):(\d\d)(?::(\d\d)(?:\.(\d{1,20}))?)?(Z|([+-])(\d\d):(\d\d))?)?$/;
+
+/** Whether a calendar has a day: after 400 years it is the same again. */
+const isDay = (year, month, day) => year > 0 && month > 0 && month < 13 && day > 0
+  && day <= new Date(Date.UTC(2000 + year % 400, month, 0)).getUTCDate();
+
+/**
+ * A date in the form of XMP as ISO 8601 has it: a day, or a moment with all its parts, such as
+ * `2019-03-12T11:20:45.500000+01:00`; null of another text, and of a day or a time that isn't there.
+ */
+export function isoDate(text) {
+  const [, year, month, day, ...clock] = MOMENT.exec(text) ?? [];
+  const [hour, minute, second = "00", part = "", zone, sign, hours = 0, minutes = 0] = clock;
+  const ahead = 60 * hours + Number(minutes), two = (number) => `${Math.floor(number)}`.padStart(2, "0");
+  if (!isDay(year, month, day) || hour > 23 || minute > 59 || second > 59 || ahead >= 24 * 60) return null;
+  if (hour === undefined) return text;
+  const more = Number(part.slice(0, 6)) ? `.${part.slice(0, 6).padEnd(6, "0")}` : "";
+  const offset = zone ? `${ahead && sign === "-" ? "-" : "+"}${two(ahead / 60)}:${two(ahead % 60)}` : "";
+  return `${text.slice(0, 16)}:${second}${more}${offset}`;
+}
+
+// The forms of dates and times in Exif and IPTC: the fields, the form, and what that is in XMP
+const DATED = [
+  [tables.dates, /^[\0 ]*(\d{4}):(\d\d):(\d\d) (\d\d:\d\d:\d\d)[\0 ]*$/, "$1-$2-$3T$4"],
+  [tables.iptcDates, /^[\0 ]*(\d{4})(\d\d)(\d\d)[\0 ]*$/, "$1-$2-$3"],
+  [tables.iptcTimes, /^[\0 ]*(\d\d)(\d\d)(\d\d)[\0 ]*$/, "2000-01-01T$1:$2:$3"],
+  [tables.iptcTimes, /^[\0 ]*(\d\d)(\d\d)(\d\d)([+-]\d\d)(\d\d)[\0 ]*$/, "2000-01-01T$1:$2:$3$4:$5"],
+];
+
+/** The date or the time that a field has by its standard, as ISO 8601 has it; null if it has none. */
+export function dateOf({ where, key, type, octets }) {
+  const place = where === "iptc" ? key : `${where} ${key}`;
+  const forms = DATED.filter(([places]) => places.includes(place));
+  if (!forms.length || !["ASCII", "UTF8", "octets"].includes(type)) return null;
+  const text = guessedWhole(octets);
+  const [, form, written] = forms.find(([, one]) => one.test(text)) ?? [];
+  const date = form ? isoDate(text.replace(form, written)) : null;
+  return date && tables.iptcTimes.includes(place) ? date.slice(11) : date;
 }
 
 /** A text whose character set isn't declared, with the blanks at its end. */
@@ -448,8 +495,7 @@ export function valueOf(field) {
   if (!octets) return oneOrAll(raw === "" ? [] : raw.split(" ").map(FLOATS[type] ?? numberOfWord));
   if (where === "iptc") return datasetValue(field);
   if (type === "ASCII" || type === "UTF8" || type === "UNDEFINED" && tables.versions.includes(place)) {
-    const moment = tables.dates.includes(place) ? /^(\d{4}):(\d\d):(\d\d) (\d\d:\d\d:\d\d)$/.exec(guessed(octets)) : null;
-    return moment ? `${moment[1]}-${moment[2]}-${moment[3]}T${moment[4]}` : guessedWhole(octets);
+    return dateOf(field) ?? guessedWhole(octets);
   }
   if (isComment(field)) return textOfComment(field) ?? guessedWhole(octets);
   if (isWideText(field)) return wide[1].decode(octets.subarray(0, octets.length & ~1)).replace(/\0+$/, "");

@@ -24,6 +24,7 @@ import exifnorm
 from exifnorm_pictures.comparison import two_pictures
 from exifnorm_pictures.comparison.changed.edits import PROGRAMS, edits_of
 import made_files as made
+import odd_dates
 import odd_heads
 from test_jpeg_same import exif, iptc, picture
 from test_page import xmp_pictures
@@ -37,7 +38,7 @@ HERE = Path(__file__).resolve().parent
 pytestmark = pytest.mark.xdist_group("web")
 MAKERS = (never.parts, never.reached, never.pointers, never.segments, never.texts, never.damages, big.pairs)
 OF_RAW = (raw.of_damaged_entries, raw.everywhere, raw.of_dng, raw.of_sony, raw.of_panasonic, raw.of_fujifilm)
-ODD, DAMAGED, HOSTILE, MADE = 300, 700, 120, 45
+ODD, DATED, DAMAGED, HOSTILE, MADE = 300, 600, 700, 120, 45
 NO_METADATA = 9  # beside the statuses of a pair
 # how files of formats begin that aren't read, and the name of each
 UNREAD = {
@@ -211,16 +212,17 @@ def captions_of(picture):
     found = {}
     for caption in picture.captions:
         if not caption.is_own:
-            found.setdefault(caption.label, set()).update(caption.texts)
+            found.setdefault(caption.label, set()).update(filter(None, caption.texts))
     return {label: texts for label, texts in found.items() if texts}
 
 
 def made_pictures():
-    """The samples, those of a museum on two nights, and odd heads."""
+    """The samples, those of a museum on two nights, odd dates, and odd heads."""
     chance = Random(13)
     some = [(it.name, it.read_bytes()) for it in TOP.glob("samples/*/*/*") if it.is_file()]
     for night in (first_night(), second_night()):
         some += [(name, it) for name, it in night.items() if isinstance(it, bytes) and it]
+    some += [("dated", odd_dates.dated(chance)) for _ in range(DATED)]
     return some + [("odd.jpg", odd_heads.pair(chance)[0]) for _ in range(ODD)]
 
 
@@ -236,8 +238,8 @@ def test_fields_are_those_of_exifnorm_pictures(answers, checks):
         refused = [[it.block, it.cause, it.offset] for it in picture.refusals]
         is_xmp = [it for it in refused if "XMP" in it[0]] or any("XMP" in it for it in found["notRead"])
         checks.equal(name, *([it for it in those if "XMP" not in it[0]] for those in (found["refused"], refused)))
-        # JavaScript knows no set that only other parts of a picture show, and no zone or part of a second of a date in `captions`
-        if name.startswith(("sets/", "clocks/")):
+        # JavaScript knows no set that only other parts of a picture show
+        if name.startswith("sets/"):
             continue
         both = {it: [found["fields"][it], text] for it, text in found["texts"].items()}
         due = {it: [*about] for it, about in fields_of(picture)}
