@@ -212,8 +212,9 @@ def main() -> None:
     parser.add_argument("--tests", nargs=argparse.REMAINDER, default=MUSEUM, help="words for pytest; without them the museum's")
     given = parser.parse_args()
     wanted: Dict[Path, Optional[Set[int]]] = dict(changed_lines(given.since)) if given.since else {}
+    sources = "*.py" if given.tests is MUSEUM else "*.[pj][ys]"  # the museum runs no JavaScript
     for path in given.paths or ([] if given.since else [TOP / "python" / "exifnorm_pictures"]):
-        wanted.update({it.resolve().relative_to(TOP): None for it in (path.rglob("*.[pj][ys]") if path.is_dir() else [path])})
+        wanted.update({it.resolve().relative_to(TOP): None for it in (path.rglob(sources) if path.is_dir() else [path])})
     for name in IMPORTED:  # by the process that is forked, so that each fork has them
         importlib.import_module(name)
     with tempfile.TemporaryDirectory(prefix="plant-") as folder:
@@ -222,11 +223,10 @@ def main() -> None:
         kept = reached.place(TOP, given.tests)
         if not kept.exists() and (wrong := trying.traced(trees[0], given.tests, kept, reached.Traced)):
             raise SystemExit(f"the tests don't pass without a mistake:\n{wrong}")
-        sources = Sources(reached.Reached(kept))
-        chooser = random.Random(given.seed)
-        chosen = changing(sources.chosen(wanted, chooser), given.count, sources)
+        known = Sources(reached.Reached(kept))
+        chosen = changing(known.chosen(wanted, random.Random(given.seed)), given.count, known)
         print(f"{len(chosen)} statements that these tests run; --seed {given.seed} repeats them", flush=True)
-        print_all(chosen, sources, given.tests, trees)
+        print_all(chosen, known, given.tests, trees)
 
 
 if __name__ == "__main__":

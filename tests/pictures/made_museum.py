@@ -611,6 +611,12 @@ def derivatives() -> Files:
     return {name: captioned(300 + number) for number, name in enumerate(names.split())}
 
 
+def row(first: int, date: str) -> Files:
+    """Pictures that are numbered from `first` on, and one with a date."""
+    files: Files = {f"{first + it}.jpg": captioned(410 + it, title=f"Salt {it}") for it in range(3)}
+    return {**files, "dated.jpg": taken(420, packet=date)}
+
+
 def alike() -> Files:
     """Pictures of the same data, some of which look otherwise by what says how to decode them."""
     plain, still, alpha, moves = picture(400), bytes(9), (b"VP8 ", b"pixels"), (b"ANIM", b"pixels")
@@ -634,6 +640,7 @@ def alike() -> Files:
         **{f"{name}.jpg": it for name, it in jpegs.items()},
         **{f"{name}-without-jfif.jpg": it.replace(plain[2:20], b"") for name, it in jpegs.items()},
         **{f"{name}.webp": webp(*chunks) for name, chunks in webps.items()},
+        "a-link.jpg": Link("plain.jpg"),
         **{f"{number}.heic": heif(PICTURE, PICTURE, primary=number) for number in (1, 2)},
         **{f"{number}.png": png(point=number) for number in (1, 2)},
     }

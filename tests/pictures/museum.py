@@ -101,6 +101,8 @@ def make(folder):
     made_museum.put("edits/web", made_museum.derivatives())
     made_museum.put("edits/spoiled", made_museum.spoiled())
     made_museum.put("edits/alike", made_museum.alike())
+    made_museum.put("edits/row", made_museum.row(1, "2025-03-31"))
+    made_museum.put("edits/numbered-anew", made_museum.row(2, "2025-03-31T14:30"))
     put_bag(folder / "bag")
 
 

@@ -64,6 +64,8 @@ CALLS = {
         index --files-from some --catalogue three --jobs 1
             index --files-from some0 -0 --catalogue three --json
         index nowhere --catalogue four
+        index archive/states archive/notes --catalogue states --jobs 1 --quiet
+            index archive/states archive/notes --catalogue states --whole --maker-notes --quiet
         index one/desk --catalogue few --keep-old nowhere/old --jobs 1 --quiet
         index one/desk --catalogue words.catalogue
         index one
@@ -194,6 +196,7 @@ CALLS = {
         changed edits/before edits/after --jobs 1 --quiet --csv --ignore 'IFD0:*'
         changed edits/before edits/after --jobs 1 --quiet --edit 2 --edit 3
         changed edits/before edits/after --jobs 1 --quiet --undo undo.args
+        changed edits/row edits/numbered-anew --jobs 1 --quiet --each
         changed edits/masters edits/web --match stem --jobs 1 --quiet
         changed edits/masters edits/web --match stem --jobs 1 --quiet --csv
         changed edits/web edits/masters --match stem --jobs 1 --quiet --json
@@ -222,6 +225,7 @@ CALLS = {
         compare one/notes/note.jpg one/notes/moved.jpg
         compare one/notes/note.jpg one/notes/moved.jpg --no-programs
         compare one/notes/note.jpg one/notes/owner.jpg --debug
+        compare one/notes/note.jpg one/notes/owner.jpg --json
         compare one/copies/order.jpg one/copies/other-order.jpg
         compare one/copies/first.jpg one/copies/other-picture.jpg
         compare one/work/gets-cut.jpg archive/work/gets-cut.jpg
@@ -269,13 +273,15 @@ CALLS = {
             list pages --where 'DateTimeOriginal >= 2008-07 and date created < 2009' --columns 'date created'
             list pages --where 'date created = impossible or creator is Otto or keywords one of salt, Otto' --columns creator,keywords
             list pages --where 'GPSTimeStamp = 10:38:11 and dc:source has 6' --columns GPSTimeStamp
+            list pages --where 'GPSTimeStamp = 10:38 and GPSTimeStamp >= "23:59 UTC"' --columns GPSTimeStamp
             list pages --where 'title like "Z?rich" and copyright != Otto or position = "51.5, 33.20"' --columns title,copyright
             list pages --where '((title = a or (title = b' --columns title
             list pages --where 'title == a'
+            list pages --where 'title equals'
             list pages --where 'title = "a'
             list pages --where 'ISO = many'
             list pages --count LightSource
-            list pages --geojson
+            list pages --geojson --columns creator
             check pages --all
     """,
     "check": """
@@ -344,6 +350,7 @@ CALLS = {
         explain one/refused/Overlap.jpg one/refused/NoMarker.jpg one/refused/Loop.jpg
         explain archive/states/* --limit 50 --whole
         explain archive/states/packet-broken.png archive/refused/Overlap.jpg archive/states/cut-in-its-head.jpg --json --debug
+        explain archive/states/cut-in-its-picture.jpg --json
         explain one/refused/* --no-programs
             explain one/refused/* archive/texts/languages.jpg --no-programs --json
         explain --files-from some
@@ -484,6 +491,8 @@ def test_all_rows_of_pictures_and_blocks(museum, golden):
             names = [column[0] for column in rows.description]
             lines += [f"{table}: {', '.join(names)}"]
             lines += sorted("  " + ", ".join(map(cell, names, row)) for row in rows)
+        indexes = base.execute("SELECT sql FROM sqlite_master WHERE type = 'index' ORDER BY sql")
+        lines += ["indexes", *(f"  {sql}" for sql, in indexes if sql)]
         golden("museum/rows.txt", "\n".join(lines).replace(str(museum), "F") + "\n")
         lines = []
         for table in ("fields", "captions", "maker_notes", "conflicts", "not_read", "groups"):

@@ -3,6 +3,7 @@ or many, and what reads a file object."""
 
 import contextlib
 import io
+import os
 import shutil
 import sqlite3
 
@@ -11,6 +12,7 @@ from museum import done, run
 from studio import needs
 
 import exifnorm
+from exifnorm_pictures.catalogue.store import Catalogue, NoCatalogue
 from exifnorm_pictures.extract import file_objects
 from exifnorm_pictures.model import budgets, found
 from exifnorm_pictures.scan import progress
@@ -90,6 +92,15 @@ def test_a_value_of_another_type_is_refused(museum):
     for line, why in (("same plain --no-look", "1.5 is a value of another type"), ("changed plain before", "isn't bytes")):
         status, _, messages = run(line, museum)
         assert status > 2 and "plain is damaged" in messages[-1] and why in messages[-1], (line, status, messages)
+
+
+LOSES = {"removed": os.unlink, "replaced": lambda name: os.replace("plain", name), "cut": lambda name: os.truncate(name, 4096)}
+
+
+@pytest.mark.parametrize("how", LOSES)
+def test_a_catalogue_that_is_lost_while_it_is_written(how, museum):
+    with pytest.raises(NoCatalogue, match=f"few was {how} while it was written"), Catalogue("few", there=True):
+        LOSES[how]("few")
 
 
 @needs("exiftool")

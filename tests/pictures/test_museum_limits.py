@@ -63,6 +63,7 @@ LIMITS = """
     report.changes.SHEET 1: report full --since full.before --html page.html
     report.contents.CHARACTERS 90: report few --html pages/
     report.contents.PAGE 2: report few --html pages/
+    report.contents.PAGE 1: report few --html page.html
     report.lists.MOST_PARTS 2: report full --html page.html
     report.shrinking.LARGEST 200: report few --html page.html
     scan.moved.MOST 0: changed before plain
