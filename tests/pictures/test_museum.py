@@ -41,6 +41,8 @@ LISTS = {
     "words.catalogue": "words",
     "empty.catalogue": "",
     "rules": RULES,
+    "commented": "title is #5\nevery picture needs # title\n",
+    "undamaged": "damage never\n",
     "but-creator": "labels agree except creator\n",
     "creators": "creator agree\n",
     "some": "archive/desk\narchive/work/pages.tif\n",
@@ -67,6 +69,7 @@ CALLS = {
         index archive/states archive/notes --catalogue states --jobs 1 --quiet
             index archive/states archive/notes --catalogue states --whole --maker-notes --quiet
         index one/desk --catalogue few --keep-old nowhere/old --jobs 1 --quiet
+        index one/desk --catalogue few --exclude none --exclude 'nothing*' --jobs 1 --quiet
         index one/desk --catalogue words.catalogue
         index one
         index archive/copies archive/refused --catalogue "my catalogue's" --jobs 1
@@ -196,6 +199,9 @@ CALLS = {
         changed edits/before edits/after --jobs 1 --quiet --csv --ignore 'IFD0:*'
         changed edits/before edits/after --jobs 1 --quiet --edit 2 --edit 3
         changed edits/before edits/after --jobs 1 --quiet --undo undo.args
+        index archive/states --catalogue first --jobs 1 --quiet
+            index archive/states --catalogue second --jobs 1 --quiet
+            changed first second
         changed edits/row edits/numbered-anew --jobs 1 --quiet --each
         changed edits/masters edits/web --match stem --jobs 1 --quiet
         changed edits/masters edits/web --match stem --jobs 1 --quiet --csv
@@ -220,6 +226,7 @@ CALLS = {
         compare one/work/retitled.jpg archive/work/retitled.jpg --csv --limit 50
         compare one/work/retitled.jpg archive/work/retitled.jpg --json --whole
         compare one/work/retitled.jpg archive/work/retitled.jpg --only title
+        compare one/work/retitled.jpg archive/work/retitled.jpg --only Exif.Image.Artist --only XMP:Title
         compare one/work/retitled.jpg archive/work/retitled.jpg --ignore 'IPTC:*' --ignore @fields
         compare one/work/retitled.jpg archive/work/retitled.jpg --only @fields --equal-numbers
         compare one/notes/note.jpg one/notes/moved.jpg
@@ -261,6 +268,8 @@ CALLS = {
         list full --since 2026-01-04
         list archive --with position --sidecars --jobs 1 --quiet --whole --limit 50 --debug
         list full --where 'creatr = x'
+        list full --where 'caption like "*zeil"'
+        list few --where 'date created < today and not date created = today'
         list plain --where 'without title and not without creator'
         list plain --columns Sharpnes
         list full --xlsx list.xlsx
@@ -292,6 +301,8 @@ CALLS = {
         check --rules rules archive/work --jobs 1 --quiet --sidecars --whole --limit 50 --debug
         check --rules rules plain --xlsx check.xlsx
         check --rules some plain
+        check --rules commented few
+        check --rules undamaged archive/states --jobs 1 --quiet
         check full
         check few
         check full --all
@@ -365,6 +376,8 @@ CALLS = {
         report full --only @fields --equal-numbers --since full.before --html page.html --files-from some
         report full --files-from some0 -0 --html page.html --rules rules
         report few --html page.html
+        index archive/refused --catalogue "my catalogue's" --jobs 1 --quiet
+            report "my catalogue's" --html letter.html
         report --html page.html
         report few --html one
         report few --html some

@@ -121,6 +121,7 @@ AT_ONCE = """
     index --files-from some --catalogue three --jobs 1
     index one/desk --catalogue few --keep-old nowhere/old --jobs 1 --quiet
     list full --count creator
+    list full --where 'caption like "*zeil"'
     list full --where 'title = "A vase" or creator like "Zo*"' --columns title,creator --csv
     mend --files-from some mended --json
     mend --files-from doubled mended
