@@ -46,7 +46,7 @@ WRONG = (
 )
 
 
-def _packet(properties: str, about: str = "") -> str:
+def packet_of(properties: str, about: str = "") -> str:
     return f"<r:RDF {SPACES}><r:Description r:about='{about}'>{properties}</r:Description></r:RDF>"
 
 
@@ -54,7 +54,7 @@ def _whole_packets() -> List[str]:
     """Packets with what is around the properties."""
     description = "<r:Description r:about='{}' d:{}='1'/>"
     two = f"<r:RDF {SPACES}>{description.format('u:1', 'a')}{description.format('{}', 'b')}</r:RDF>"
-    meta = f"<x:xmpmeta xmlns:x='adobe:ns:meta/' x:xmptk='t'>{_packet(VALUES[0])}</x:xmpmeta>"
+    meta = f"<x:xmpmeta xmlns:x='adobe:ns:meta/' x:xmptk='t'>{packet_of(VALUES[0])}</x:xmpmeta>"
     return [
         f"\ufeff<?xpacket begin='\ufeff' id='W5M0MpCehiHzreSzNTczkc9d'?>{meta}\n<?xpacket end='w'?>  \n",
         f"<?xml version='1.0' encoding='UTF-8' standalone='yes'?>{meta}",
@@ -70,5 +70,5 @@ def _whole_packets() -> List[str]:
 
 def small_packets() -> List[bytes]:
     """All of them."""
-    texts = [*map(_packet, (*VALUES, *RARE, *WRONG, "".join(VALUES[1:2] + VALUES[9:10]))), *_whole_packets()]
+    texts = [*map(packet_of, (*VALUES, *RARE, *WRONG, "".join(VALUES[1:2] + VALUES[9:10]))), *_whole_packets()]
     return [*(it.encode() for it in texts), texts[0].encode("utf-16")]

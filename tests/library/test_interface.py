@@ -7,10 +7,13 @@ import pytest
 
 import exifnorm
 from commands import run, text_of
-from compiling import HEADERS, HERE, STRICT, need
+from compiling import C99, HEADERS, HERE, STRICT, need
 from exifnorm import _library
+from jpeg_made import PICTURE
 from judged import NAMES
+from kinds import small_kinds
 from meanings import LIMIT
+from small_packets import packet_of, small_packets
 
 FOR_CPP = [it for it in STRICT if it != "-Wstrict-prototypes"]
 HEADER = (HEADERS / "exifnorm.h").read_text(encoding="utf-8")
@@ -69,3 +72,15 @@ def test_arguments_at_their_limits(kind, shared, archive, folder, version):
     library = [shared, f"-Wl,-rpath,{shared.parent}"] if kind == "shared" else [archive]
     run("cc", "-std=c99", "-O1", *STRICT, HERE / "edges.c", "-o", folder / "edges", *library)
     assert re.fullmatch(r"[1-9]\d* checks\n", run(folder / "edges", version, *NAMES))
+
+
+def test_threads_at_once_get_the_same(shared, folder):
+    """Sixteen, each on a stack of the size that exifnorm.h names. One packet has as many elements in one another as are read."""
+    deepest = "<d:a r:parseType='Resource'>" * 96 + "<d:a/>" + "</d:a>" * 96
+    inputs = [*small_packets(), packet_of(deepest).encode(), *(it.blocks[0] for it in small_kinds()), PICTURE]
+    files = [folder / str(number) for number in range(len(inputs))]
+    for file, octets in zip(files, inputs):
+        file.write_bytes(octets)
+    program = folder / "threads"
+    run(*C99, HERE / "threads.c", "-o", program, shared, f"-Wl,-rpath,{shared.parent}", "-lpthread")
+    assert run(program, *files) == f"{len(files)} inputs\n"
