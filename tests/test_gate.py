@@ -149,14 +149,6 @@ def test_a_stopped_run_leaves_no_process(gate, tmp_path):
         assert started.returncode == 1, (number, output)
 
 
-@pytest.mark.parametrize("refused", ["", "zsh"])
-def test_each_package_is_installed_although_one_is_refused(gate, refused):
-    script = 'case " $* " in *" update "*) ;; *" {} "*) exit 100 ;; *) shift 3; printf "%s\\n" "$@" >>installed ;; esac'
-    put(gate, **{"apt-get": script.format(refused or "none")})
-    assert call(gate, "--install").returncode == bool(refused)
-    assert {*(gate / "installed").read_text(encoding="ascii").split()} == {*call(gate, "--packages").stdout.split()} - {refused}
-
-
 @pytest.mark.parametrize(
     "words, expected",
     [(["--quick"], "--program quick/exifnorm"), (["tests/pictures", "--only", "a, [b]"], "-m not proof tests/pictures --only a, [b]")],

@@ -10,20 +10,17 @@ import re
 import struct
 import subprocess
 import sys
-import warnings
-from collections.abc import Mapping
-from datetime import date, datetime, time, timedelta, timezone
+from datetime import date, datetime
 from fractions import Fraction
 from pathlib import Path
 from xml.etree import ElementTree
 
 import pytest
-from made_blocks import ASCII, BLOCKS, block, entry, with_exif
 from made_boxes import Item, box, heif, item_exif, jp2, jxl, uuid
-from made_files import app1, app13, app1_xmp, chunk, data_set, exif, jpeg, png, png_xmp, resource, title, webp, with_record, xmp
+from made_files import app1, app1_xmp, chunk, data_set, exif, jpeg, png, png_xmp, resource, title, webp, xmp
 from made_more_files import gif, gif_xmp, psd
 from made_raw import arw, cr2, dng, nef, orf, pef, rw2, srw, whole_raf
-from studio import SMALL_JPEG, TOP, needs, tool
+from studio import TOP, needs
 from test_bigtiff import big, fields
 from test_cr3 import cr3, structures
 
@@ -43,20 +40,6 @@ BOWL = "ceramics/2003-12-bowl.jpg"
 VASE = "ceramics/1998-7-vase.jpg"
 PHONE = "arrivals/IMG_20240502.jpg"
 SAMPLES = sorted(it for it in BEFORE.rglob("*.*") if it.suffix in (".jpg", ".png", ".tif", ".webp"))
-
-
-def test_values_have_types():
-    bowl = pictures.read(BEFORE / BOWL)
-    assert (bowl["IFD0:Model"], bowl["ExifIFD:ExposureTime"], bowl["ExifIFD:ISO"]) == ("Canon EOS 5D Mark II", Fraction(1, 60), 200)
-    assert bowl["ExifIFD:DateTimeOriginal"] == datetime(2019, 3, 12, 11, 20, 45)
-    assert bowl["IPTC:Keywords"] == ("bowl", "celadon")
-    assert bowl["model"] == "Canon EOS 5D Mark II" and "GPS:GPSLatitude" not in bowl and bowl.get("GPS:GPSLatitude") is None
-    with pytest.raises(KeyError, match="Nothing"):
-        bowl["Nothing"]
-    assert list(bowl) == list(bowl.names) and {name: bowl[name] for name in bowl}["IFD0:Model"] == "Canon EOS 5D Mark II"
-    assert bowl and 3 not in bowl and bowl.get("IFD0:Model") in ("Canon EOS 5D Mark II", *bowl)
-    with pytest.raises(KeyError, match="0"):
-        bowl[0]
 
 
 @pytest.mark.parametrize(
@@ -81,86 +64,6 @@ def test_a_name_of_no_field_is_told_with_the_one_that_is_meant(name, meant):
     said = str(raised.value)
     assert meant in said and ("(" in said) == bool(meant) and len(said) < 300 and raised.value.args == (name,)
     assert str(pickle.loads(pickle.dumps(raised.value))) == said
-
-
-def test_a_picture_is_a_mapping():
-    bowl, again = pictures.read(BEFORE / BOWL), pictures.read(BEFORE / BOWL)
-    assert isinstance(bowl, Mapping) and dict(bowl.items()) == dict(zip(bowl.keys(), bowl.values())) == dict(bowl)
-    assert len(bowl) == len(bowl.names) and tuple(bowl.keys()) == bowl.names
-    assert bowl == bowl != again and len({bowl, again}) == 2 and bowl != dict(bowl)  # equal are only those that are one object
-    plain = pictures.read_bytes(SMALL_JPEG)
-    assert not plain and len(plain) == 0
-
-
-def test_pictures_that_mean_the_same():
-    before, after, bowl, phone, again = (pictures.read(it) for it in (BEFORE / VASE, AFTER / VASE, BEFORE / BOWL, *[BEFORE / PHONE] * 2))
-    assert before.same_as(after) is True and before.same_as(bowl) is False
-    assert [it.same_as(phone) for it in (bowl, again, phone)] == [None] * 3  # it has a refused block
-    cut = pictures.read_bytes((BEFORE / VASE).read_bytes()[:3000])
-    assert cut.is_whole is False and cut.same_as(before) is before.same_as(cut) is None
-    plain = [pictures.read_bytes(it) for it in (SMALL_JPEG, png())]
-    assert plain[0].same_as(plain[1]) is True and plain[0].same_as(bowl) is False  # both have no metadata, which is known
-
-
-def test_each_name_has_its_own_value():
-    """Also where another one differs from it in capital letters alone."""
-    packet = xmp("<dc:rights>one</dc:rights><dc:Rights>two</dc:Rights>")
-    with warnings.catch_warnings():
-        warnings.simplefilter("error")
-        assert dict(pictures.read_bytes(packet)) == {"XMP-dc:rights": "one", "XMP-dc:Rights": "two"}
-    with pytest.warns(UserWarning, match="XMP-dc:Rights, XMP-dc:rights"):
-        assert pictures.read_bytes(packet)["XMP-DC:RIGHTS"] == "two"
-
-
-def test_of_two_blocks_the_first_has_the_value():
-    artists = [block([entry(0x013B, ASCII, 4, it)]) for it in (b"Ann\0", b"Udo\0")]
-    both = pictures.read_bytes(jpeg(*map(app1, artists)))
-    names = ("IFD0:Artist", "artist", "0x013b")
-    assert [both[it] for it in names] == ["Ann"] * 3
-    assert [len(both.find(it)) for it in names] == [2] * 3
-    assert len(both) == 1 and "IFD0:Artist" in both and "ARTIST" in both
-    assert "IFD0:Artists" not in both
-
-
-def test_a_value_of_a_type():
-    bowl = pictures.read(BEFORE / BOWL)
-    assert bowl.get("ISO", type=int) == 200 and bowl.get("Model", type=int) is None and bowl.get("Model", 0, type=int) == 0
-    assert bowl.get("IPTC:Keywords", type=tuple) == ("bowl", "celadon") and bowl.get("Artist", "unknown", type=str) == "unknown"
-
-
-def test_names_are_also_those_of_the_standards():
-    found = pictures.read_bytes(png(png_xmp(xmp("<dc:title><rdf:Alt><rdf:li xml:lang='x-default'>Vase</rdf:li></rdf:Alt></dc:title>"))))
-    assert found["dc:title"] == found["XMP-dc:title"] == found["DC:Title"] == "Vase" and len(found.find("dc:title")) == 1
-    bowl = pictures.read(BEFORE / BOWL)
-    assert bowl["2:25"] == ("bowl", "celadon") and bowl["0x829A"] == Fraction(1, 60) and "2:26" not in bowl
-    assert dict(bowl) == {name: bowl[name] for name in bowl.names}
-    unnamed = pictures.read_bytes(jpeg(app1(block([entry(0xFE01, ASCII, 4, b"abc\0")]))))
-    assert [len(unnamed.find(name)) for name in ("IFD0:0xfe01", "0xfe01")] == [1, 1]
-
-
-def test_a_label_may_be_written_in_other_ways():
-    bowl = pictures.read(BEFORE / BOWL)
-    assert bowl.texts("Keywords") == bowl.texts("keywords") == ("bowl", "celadon") and bowl.texts("Date-Created")
-    for wrong, meant in (("keyword", "'keywords'"), ("serial", ""), ("position", "")):
-        with pytest.raises(ValueError, match="is no label") as raised:
-            bowl.texts(wrong)
-        assert f"perhaps {meant} is meant" in str(raised.value) if meant else "perhaps" not in str(raised.value)
-    for call in (bowl.texts, bowl.find, bowl.get):
-        with pytest.raises(TypeError, match="str, and not int"):
-            call(3)
-
-
-def test_dates_and_numbers_of_iptc():
-    record = with_record(
-        data_set(0, b"\0\4")
-        + data_set(55, b"20190312")
-        + data_set(60, b"112045+0100")
-        + data_set(47, b"in May")
-        + data_set(62, b"20191399")
-    )
-    found = pictures.read_bytes(jpeg(record))
-    zone = timezone(timedelta(hours=1))
-    assert [it.value for it in found.fields] == [4, "in May", date(2019, 3, 12), time(11, 20, 45, tzinfo=zone), "20191399"]
 
 
 def as_exiftool_prints(value):
@@ -258,48 +161,6 @@ def test_types_of_xmp_are_those_of_exiftool():
     assert {name: xmp_types.TYPES.get(name) for name in typed} == typed
     texts = [name for name in xmp_types.TYPES if name in theirs and name not in typed]
     assert {xmp_types.TYPES[name] for name in texts} == {"Coordinate"}, "texts by ExifTool, which reads degrees of some"
-
-
-OTHER_FORMS = {
-    "xmp:Rating": ["", "3,5", "1e3", "nan", "inf", "٣", "1" * 400],
-    "tiff:Orientation": ["", "6.0", " 6", "1_0", "٣", "0x6", "1" * 5000],
-    "exif:ExposureTime": ["0.5", "1/", "/60", "1/60 s", "1/2/3"],
-    "xmpRights:Marked": ["", "yes", "1"],
-    "exif:GPSLatitude": ["", "48.1", "48,8", "48,8,N", "48,8.0n", "48 8 N", "٤٨,8N"],
-    "exif:Values": ["", "a", "1/2/3"],
-    "xmp:CreateDate": [
-        "2019",
-        "2019-03",
-        "2019-13-01",
-        "2019-02-30",
-        "2019-03-12T24:00",
-        "2019-03-12T11:20:61Z",
-        "2019:03:12",
-        "2019-03-12T11:20+25:00",
-    ],
-}
-
-
-@pytest.mark.parametrize("name", OTHER_FORMS)
-def test_another_form_of_xmp_stays_a_text(name):
-    assert [xmp_types.object_of(name, text) for text in OTHER_FORMS[name]] == OTHER_FORMS[name]
-
-
-def test_forms_of_xmp():
-    cases = [
-        ("exif:ExposureTime", "1/0", None),
-        ("exif:ExposureTime", "-1/3", Fraction(-1, 3)),
-        ("xmp:Rating", "-1", -1.0),
-        ("xmp:Rating", ".5", 0.5),
-    ]
-    cases += [("xmpRights:Marked", "true", True), ("tiff:Orientation", "+6", 6), ("xmp:CreateDate", "0001-01-01", date(1, 1, 1))]
-    cases += [("xmp:CreateDate", "2019-03-12T11:20", datetime(2019, 3, 12, 11, 20))]
-    cases += [
-        ("xmp:CreateDate", "2019-03-12T11:20:45-03:30", datetime(2019, 3, 12, 11, 20, 45, tzinfo=timezone(-timedelta(hours=3, minutes=30))))
-    ]
-    for name, text, value in cases:
-        found = xmp_types.object_of(name, text)
-        assert (found, type(found)) == (value, type(value)), (name, text)
 
 
 def test_a_long_structure_has_a_value(tmp_path):
@@ -412,60 +273,6 @@ def test_a_guessed_character_set_is_marked(field, text, guess):
     assert field.value is None or not isinstance(field.value, str) or (field.json == text and "\ufeff" not in field.value)
 
 
-def test_a_record_that_declares_utf_8_has_no_guess():
-    declared = data_set(90, b"\x1b%G", 1)
-    for sets, guess in (([declared], ""), ([], "character set guessed: UTF-8"), ([declared, declared], "character set guessed: UTF-8")):
-        found = pictures.read_bytes(jpeg(with_record(b"".join(sets) + data_set(80, "Kropáč".encode()))))
-        (field,) = found.find("IPTC:By-line")
-        assert (field.guess, pickle.loads(pickle.dumps(field)).guess, field._in_block("second IPTC").guess) == (guess,) * 3
-        assert [it.guess for it in found.captions] == [guess] and field == Field(*field._identity)
-
-
-@pytest.mark.parametrize(
-    "octets, number, beside, tool, text, charset",
-    [
-        (b"Krop\xe1\xe8ek", 0x0408, "Kropáček", "", "Kropáček", "Windows-1250"),
-        (b"\xca\xe8\xe5\xe2", 0x0408, "Киев", "", "Киев", "Windows-1251"),
-        (b"K\x9aln", 0x03E9, "", "", "Köln", "Mac Roman"),
-        (b"K\x9aln", 0x0408, "", "Adobe Photoshop CS2 Macintosh", "Köln", "Mac Roman"),
-        (b"File written by Adobe Photoshop\xa8 4.0", 0x0408, "", "", "File written by Adobe Photoshop® 4.0", "Mac Roman"),
-        (b"K\xf6ln", 0x03E9, "Köln", "Adobe Photoshop CS2 Macintosh", "Köln", "Windows-1252"),
-        (b"K\xf6ln", 0x0408, "Bonn", "Adobe Photoshop CS2 Windows", "Köln", "Windows-1252"),
-        (
-            b"Photographer\xeds Mate 3rd Class",
-            0x03E9,
-            "Photographerís Mate 3rd Class (A",
-            "",
-            "Photographerís Mate 3rd Class",
-            "Windows-1252",
-        ),
-    ],
-)
-def test_other_parts_show_the_character_set(octets, number, beside, tool, text, charset):
-    made_by = f"<xmp:CreatorTool xmlns:xmp='http://ns.adobe.com/xap/1.0/'>{tool}</xmp:CreatorTool>"
-    resources = app13(resource(0x0404, data_set(80, octets)), resource(number, b"settings"))
-    found = pictures.read_bytes(jpeg(resources, app1_xmp(xmp(f"<dc:format>{beside}</dc:format>{made_by}"))))
-    (field,) = found.find("IPTC:By-line")
-    assert (field.value, field.text, field.json, field.guess) == (text, text, text, f"character set guessed: {charset}")
-    assert [(it.texts, it.guess) for it in found.captions] == [((text,), field.guess)] and field.raw == octets
-    assert {it.text for it in (*found.fields, *pickle.loads(pickle.dumps(found)).fields) if it.key == "2:80"} == {text}
-
-
-def test_a_broken_block_is_a_sentence_and_no_key():
-    broken = pictures.read(BEFORE / PHONE)
-    assert [str(it) for it in broken.refusals] == ["Exif: A directory has no entry (byte 442)."]
-    assert broken.meaning is None and not broken.is_whole
-    assert broken.blocks[0].repair == ("an empty directory left out",) and broken["IFD0:Model"] == "Redmi Note 4"
-    assert "mend" in broken.refusals[0].remedy
-
-
-def test_a_field_names_its_block():
-    """Also where two blocks have the same bytes, whose fields are made once."""
-    found = pictures.read_bytes(jpeg(app1(A), app1(exif(b"Otto")), app1(A)))
-    assert [(it.block, it.value) for it in found.find("Make")] == [("Exif", "Anna"), ("second Exif", "Otto"), ("third Exif", "Anna")]
-    assert len(set(found.find("Make"))) == 2, "the block is no part of what a field means"
-
-
 def shared(pages, record):
     """A TIFF with one IPTC record that all of its pages have."""
     octets = b"MM\0*" + struct.pack(">I", 8 + len(record)) + record
@@ -492,31 +299,6 @@ def test_pages_that_share_a_block_cost_it_once(monkeypatch, folder, called):
     assert len(picture.find("Keywords")) == len(list(picture.fields)) == pages * len(keywords)
     status, printed, _ = called("show", "--captions", "a.tif")
     assert status == 0 and printed.count("word 0; word 1;") == 1 and len(read) == 2
-
-
-def test_three_results():
-    assert pictures.compare(BEFORE / VASE, AFTER / VASE).same is True
-    differs = pictures.compare(BEFORE / BOWL, AFTER / BOWL)
-    assert differs.same is False
-    assert [str(it) for it in differs.differences] == [
-        "IFD0:Copyright: (none) -> Riverside Museum",
-        "IPTC:Caption-Abstract: Bowl, celadon glaze, 1820 -> Bowl, celadon glaze, 1280",
-    ]
-    refused = with_exif(SMALL_JPEG, BLOCKS["EmptyDirectory"])
-    assert pictures.compare(BEFORE / PHONE, AFTER / PHONE).result == "same"  # the same bytes
-    assert pictures.compare(io.BytesIO(refused), io.BytesIO(refused + b"\0")).same is None
-    with pytest.raises(TypeError, match="look at .same"):
-        bool(differs)
-
-
-def test_a_file_that_has_changed_is_not_identical(tmp_path):
-    """What was read is compared, and not what is there now."""
-    one, other = tmp_path / "a.jpg", tmp_path / "b.jpg"
-    one.write_bytes((BEFORE / BOWL).read_bytes())
-    other.write_bytes((AFTER / BOWL).read_bytes())
-    both = pictures.read(one), pictures.read(other)
-    other.write_bytes(one.read_bytes())
-    assert pictures.compare(*both).same is False
 
 
 @pytest.mark.parametrize("share", [1, 0.5, 0.9], ids=["whole", "half", "cut"])
@@ -552,55 +334,6 @@ def test_compare_finds_what_the_command_finds(name, after, called):
         assert ours.same is {0: True, 1: False, 2: None}[status]
 
 
-def test_compare_looks_at_the_pixels(tmp_path):
-    """Of bytes, of files and of pictures that were read; one from bytes has no pixels any more."""
-    before = (BEFORE / VASE).read_bytes()
-    at = before.rindex(b"\xff\xda") + 40
-    after = before[:at] + bytes((before[at] ^ 1,)) + before[at + 1 :]
-    one, other = tmp_path / "a.jpg", tmp_path / "b.jpg"
-    one.write_bytes(before)
-    other.write_bytes(after)
-    for sources in ((one, other), (pictures.read(one), pictures.read(other)), (io.BytesIO(before), other)):
-        found = pictures.compare(*sources)
-        assert (found.same, found.result, found.picture) == (False, "other picture, the same metadata", "other")
-    found = pictures.compare(pictures.read_bytes(before), pictures.read_bytes(after))
-    assert (found.same, found.picture, found.proved) == (True, "not compared", None)
-    other.write_bytes(after[:-200])
-    assert pictures.compare(one, other).picture == "damaged"
-
-
-def test_errors_name_the_file(tmp_path):
-    with pytest.raises(FileNotFoundError) as missing:
-        pictures.read(tmp_path / "none.jpg")
-    assert missing.value.errno == 2 and str(tmp_path / "none.jpg") in str(missing.value)
-    for name in ("nothing here.jpg", b"nothing here.jpg", Path("nothing here.jpg")):
-        with pytest.raises(FileNotFoundError) as missing:
-            pictures.read(name)
-        assert missing.value.filename == os.fspath(name)
-    with pytest.raises(IsADirectoryError) as folder:
-        pictures.read(tmp_path)
-    assert folder.value.filename == str(tmp_path)
-    with pytest.raises(OSError, match="no regular file"):
-        pictures.read("/dev/null")
-    with pytest.raises(ValueError, match="the labels are title, caption"):
-        pictures.read(BEFORE / BOWL).texts("caption/abstract")
-    with pytest.raises(TypeError, match="binary mode"):
-        pictures.read(io.StringIO("a"))
-    for error in (pictures.NotReadable("TooMuch", "more than 1", "a.jpg"), pictures.NoPicture("a.jpg: text")):
-        again = pickle.loads(pickle.dumps(error))
-        assert (type(again), str(again), vars(again)) == (type(error), str(error), vars(error))
-    assert str(pictures.NotReadable("TooMuch", "more than 1", "a.jpg")) == "a.jpg: more than 1"
-
-
-@needs("exiftool")
-def test_what_is_no_picture(tmp_path):
-    (tmp_path / "text.jpg").write_text("no picture")
-    with pytest.raises(pictures.NoPicture, match="text.jpg"):
-        pictures.read(tmp_path / "text.jpg")
-    with pytest.raises(pictures.NoPicture, match="a name"):
-        pictures.read_bytes(b"no picture", name="a name")
-
-
 def test_a_mistake_of_ours_affects_one_picture(monkeypatch):
     def fails(*_):
         raise ZeroDivisionError("a mistake")
@@ -609,47 +342,6 @@ def test_a_mistake_of_ours_affects_one_picture(monkeypatch):
     with pytest.raises(pictures.NotReadable, match="a mistake") as error:
         pictures.read(BEFORE / BOWL)
     assert error.value.problem == "InternalError"
-
-
-@needs("exiftool")
-def test_where_and_when(tmp_path):
-    path = tmp_path / "a.jpg"
-    path.write_bytes((BEFORE / BOWL).read_bytes())
-    words = ["-GPSLatitude=46.5", "-GPSLatitudeRef=N", "-GPSLongitude=7.25", "-GPSLongitudeRef=W", "-GPSAltitude=12", "-GPSAltitudeRef#=1"]
-    more = ["-SubSecTimeOriginal=5", "-OffsetTimeOriginal=+02:00"]
-    tool(tmp_path, "exiftool", "-q", "-overwrite_original", *words, *more, "a.jpg")
-    found = pictures.read(path)
-    assert found.position == pictures.Position(46.5, -7.25, -12.0)
-    assert found.taken == datetime(2019, 3, 12, 11, 20, 45, 500000, timezone(timedelta(hours=2)))
-    assert found["GPS:GPSAltitudeRef"] == 1
-
-
-@needs("exiftool")
-def test_a_date_of_xmp_or_iptc(tmp_path):
-    """If Exif has none: the guidelines of the Metadata Working Group name these fields. A date without its time isn't when it was taken."""
-    path = tmp_path / "a.jpg"
-    path.write_bytes(jpeg())
-    iptc = ["-IPTC:DateCreated=2017:02:03", "-IPTC:TimeCreated=04:05:06+01:00"]
-    xmp, of_xmp = "-XMP-photoshop:DateCreated", datetime(2018, 1, 2, 3, 4, 5, tzinfo=timezone(timedelta(hours=6)))
-    of_iptc = datetime(2017, 2, 3, 4, 5, 6, tzinfo=timezone(timedelta(hours=1)))
-    for words, expected in (
-        ([*iptc, f"{xmp}=2018:01:02 03:04:05+06:00"], of_xmp),
-        ([f"{xmp}=2018:01"], of_iptc),
-        (["-IPTC:TimeCreated="], None),
-    ):
-        tool(tmp_path, "exiftool", "-q", "-overwrite_original", *words, "a.jpg")
-        assert pictures.read(path).taken == expected
-
-
-@pytest.mark.parametrize("reference, sign", [("0", 1), ("1", -1), ("2", 1), ("3", -1)])
-def test_a_position_of_xmp(reference, sign):
-    """By XMP part 2 (8.7.5), and the four references of Exif 3.0: above and below the ellipsoid, above and below the sea."""
-    place = "xmlns:exif='http://ns.adobe.com/exif/1.0/' exif:GPSLatitude='46,30.0N' exif:GPSLongitude='7,15,0W'"
-    found = pictures.read_bytes(png(png_xmp(xmp("", f"{place} exif:GPSAltitude='25/2' exif:GPSAltitudeRef='{reference}'"))))
-    assert found.position == pictures.Position(46.5, -7.25, 12.5 * sign)
-    assert pictures.read_bytes(png(png_xmp(xmp("", place)))).position == pictures.Position(46.5, -7.25, None)
-    for wrong in (place.replace("7,15,0W", ""), place.replace("46", "91"), place.replace("N", "E")):
-        assert pictures.read_bytes(png(png_xmp(xmp("", wrong)))).position is None
 
 
 def facts(it):

@@ -49,11 +49,6 @@ class Archive(InFolder):
         after = self.rows()
         return {it: (self.before.get(it), after.get(it)) for it in {*self.before, *after} if self.before.get(it) != after.get(it)}
 
-    def test_nothing(self):
-        self.assertEqual(self.run_again(), ({}, {"unchanged": 4}))
-        self.assertEqual(self.changed_rows(), {})
-        self.assertEqual(read(self.path("c"))[18:20], b"\1\1", "no write-ahead log is needed to read it (SQLite's file format, 1.3.3)")
-
     def test_runs(self):
         """Each run has its times in UTC, and the version of the library, if it has read a picture."""
         write(self.path("p", "d.exv"), EXV)
@@ -77,29 +72,11 @@ class Archive(InFolder):
         self.assertEqual(self.run_again(PATH=bare), ({}, {"unchanged": 5}))
         self.assertEqual(self.run_again(), ({"g.exv": "looked at"}, {"unchanged": 4, "no block": 1}))
 
-    def test_deleted_and_back(self):
-        octets = read(self.path("p", "a.jpg"))
-        os.remove(self.path("p", "a.jpg"))
-        self.assertEqual(self.run_again(), ({"a.jpg": "Vanished"}, {"unchanged": 3, "Vanished": 1}))
-        self.assertEqual(self.changed_rows(), {"a.jpg": (self.before["a.jpg"], ("Vanished", self.before["a.jpg"][1]))})
-        self.assertEqual(self.run_again(), ({}, {"unchanged": 3}))
-        write(self.path("p", "a.jpg"), octets)
-        self.assertEqual(self.run_again(), ({"a.jpg": "looked at"}, {"unchanged": 3, "accepted": 1}))
-        self.assertEqual(self.changed_rows(), {})
-
     def test_what_a_picture_meant_is_kept_where_it_cannot_be_read(self):
         os.remove(self.path("p", "b.jpg"))
         os.mkfifo(self.path("p", "b.jpg"))
         self.assertEqual(self.run_again(), ({"b.jpg": "NotAFile"}, {"unchanged": 3, "NotAFile": 1}))
         self.assertEqual(self.changed_rows(), {"b.jpg": (self.before["b.jpg"], ("NotAFile", self.before["b.jpg"][1]))})
-
-    def test_a_file_with_two_new_names(self):
-        """It moved to the first one, and the other one is new."""
-        os.rename(self.path("p", "a.jpg"), self.path("p", "x.jpg"))
-        os.link(self.path("p", "x.jpg"), self.path("p", "y.jpg"))
-        self.assertEqual(self.run_again()[1], {"unchanged": 3, "accepted": 2, "Moved": 1})
-        found = sql_rows(self.path("c"), "SELECT detail FROM pictures WHERE problem = 'Moved'")
-        self.assertEqual(found, [(f"to {self.path('p', 'x.jpg')}",)])
 
     def test_a_folder_that_is_gone_and_back(self):
         os.rename(self.path("p"), self.path("away"))
@@ -120,17 +97,6 @@ class Archive(InFolder):
         named, counts = self.run_again(status=2)
         self.assertEqual(counts, {"unchanged": 4, "Unreadable": 1})
         subprocess.run(["rm", "-rf", self.path("p", "d" * 250)], check=True)
-
-    def test_the_catalogue_inside_the_folder(self):
-        for _ in range(2):
-            self.asked("index", "p", "--catalogue", "p/c", "--quiet")
-        self.assertEqual(self.asked("index", "p", "--catalogue", "p/c", "--quiet"), ["4 unchanged"])
-        self.assertNotIn("c", self.rows("p/c"))
-
-    def test_the_catalogue_inside_a_folder_that_is_a_link(self):
-        os.symlink("p", self.path("link"))
-        self.asked("index", "link", "--catalogue", "link/c", "--quiet")
-        self.assertEqual(self.asked("index", "link", "--catalogue", "link/c", "--quiet"), ["4 unchanged"])
 
     def test_a_picture_that_is_named_twice(self):
         words = ["index", "p", "p/a.jpg", "p/../p", "p/sub", "--quiet", "--catalogue"]
@@ -283,26 +249,3 @@ class Rights(WithPictures):
             done = self.as_nobody(*words)
             self.assertEqual((done.returncode, len(done.stderr.splitlines() + done.stdout.splitlines())), (4, 1), done)
         self.assertEqual(os.listdir(self.path("shut")), [])
-
-
-class Kinds(InFolder):
-    """Each kind of block by itself."""
-
-    def compared(self, one, other, status=1):
-        for side, octets in (("before", one), ("after", other)):
-            os.makedirs(self.path(side), exist_ok=True)
-            write(self.path(side, "a.jpg"), octets)
-        return json.loads(self.asked("changed", "before", "after", "--json", "--all", status=status)[0])
-
-    def test_what_is_no_file_is_not_compared(self):
-        """A pipe, and a link that leads to no file, on one side or on both."""
-        for side in ("before", "after"):
-            put(self.folder, {f"{side}/a.jpg": ONE})
-            os.mkfifo(self.path(side, "c.jpg"))
-        os.mkfifo(self.path("before", "b.jpg"))
-        os.symlink("nothing", self.path("after", "d.jpg"))
-        write(self.path("after", "b.jpg"), ONE)
-        lines = self.asked("changed", "before", "after", "--each", status=1)
-        self.assertEqual(
-            lines, ["b.jpg: missing before", "1 same, 1 missing before", "Only metadata was compared: --pixels compares the pictures, too."]
-        )

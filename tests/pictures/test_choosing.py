@@ -16,11 +16,9 @@ from made_files import app1, app1_xmp, data_set, exif, iim, jpeg, with_record, w
 from studio import SMALL_JPEG, TOP, needs, put, sql_rows, tool
 
 import exifnorm
-from exifnorm_pictures.comparison.changed.states import Weight, weights_of
-from exifnorm_pictures.fields.choosing import SAVES, Choice, kinds_of
-from exifnorm_pictures.fields.field_names import is_possible, names_and_groups
+from exifnorm_pictures.fields.choosing import SAVES, Choice
+from exifnorm_pictures.fields.field_names import names_and_groups
 from exifnorm_pictures.fields.labels import OF_FIELDS, POSITION, fields_by_label
-from exifnorm_pictures.model.found import EXIF, IPTC, XMP
 
 BUT = "the same but for the fields left out"
 
@@ -149,56 +147,7 @@ def test_groups(pattern, groups, folder, compared):
     assert {it.partition(":")[0] for it in compared("--ignore", pattern)[2]} & groups == set()
 
 
-def fits(pattern, where, key):
-    """Whether a field fits a pattern."""
-    return Choice(only=[pattern]).counts(where, key)
-
-
-def test_a_wildcard_without_a_group_is_for_names_without_one():
-    assert fits("*Date*", "xmp", "xmp:MetadataDate") and fits("*Date*", "main", "0132")
-    assert not fits("I*", "iptc", "2:80") and fits("I*", "exif", "8827")
-    assert not fits("xmp:*", "xmp", "<http://x/title>") and fits("xmp:<http*", "xmp", "<http://x/title>")
-
-
-def test_kinds_of_patterns():
-    for kind, patterns in {
-        EXIF: ("Exif", "exif:*", "IFD1:ModifyDate", "thumb:*", "main:0x013b"),
-        IPTC: ("IPTC", "2:25", "iptc:Keywords"),
-        XMP: ("XMP", "dc:title", "XMP-exif:*", "xmpMM:*"),
-    }.items():
-        assert {it: kinds_of(it) for it in patterns} == {it: {kind} for it in patterns}
-    assert kinds_of("Artist") == kinds_of("*:title") == {EXIF, IPTC, XMP}
-
-
 # Names that are no field's
-
-
-@needs("exiftool")
-@pytest.mark.parametrize(
-    "name, meant",
-    [
-        ("Artst", "Artist"),
-        ("IFD0:Artst", "IFD0:Artist"),
-        ("xmp:MetadataDat", ""),
-        ("exif:DateTimeOrignal", "exif:DateTimeOriginal"),
-        ("savs", "saves"),
-    ],
-)
-def test_a_mistyped_name_is_never_silent(name, meant, folder, run):
-    (folder / "p").mkdir()
-    (folder / "p" / "a.jpg").write_bytes(by_exiftool(folder))
-    for words in (["compare", "b.jpg", "b.jpg"], ["changed", "p", "p"]):
-        status, found, err = run(*words, "--ignore", name)
-        if name.startswith("xmp:"):  # whose namespace is known, and may have other properties
-            assert (status, any(it.startswith(f"No picture has a field {name}") for it in found)) == (0, True), found
-        else:
-            assert (status, f"perhaps {meant} is meant" in err) == (3, True)
-
-
-def test_a_name_that_is_in_no_dictionary_is_one_that_a_picture_has(run):
-    packet = xmp("<y:unheard>a</y:unheard>", "", "xmlns:y='http://example.com/'")
-    status, _, err = run("compare", "a.jpg", "b.jpg", "--ignore", "XMP:<http://example.com/unheard>", a=jpeg(app1_xmp(packet)), b=jpeg())
-    assert (status, err) == (0, "")
 
 
 def test_an_empty_name(run):
@@ -296,20 +245,6 @@ def test_what_stands_for_more_fields_than_are_kept_always_counts():
     assert choice.counts("iptc", "more") and choice.counts("", "") and not choice.counts("iptc", "2:25")
 
 
-def test_a_difference_that_no_field_shows_stays():
-    """Blocks whose meanings differ, and whose listings don't."""
-    assert weights_of([], False, Choice(ignore=["Artist"])) == [Weight.COUNTS]
-    assert weights_of([], True, Choice(ignore=["Artist"])) == []
-
-
-def test_long_values_are_compared_by_their_digests(compared):
-    """Values that a listing shortens, with equal beginnings."""
-    texts = [b"x" * 2000 + ending for ending in (b"a", b"b")]
-    one, two = (jpeg(app1(exif(b"abc")), with_record(iim(it))) for it in texts)
-    assert compared("--ignore", "Make", a=one, b=two)[1:3] == ("different", ["IPTC:Keywords"])
-    assert compared("--ignore", "Keywords")[:2] == (0, BUT)
-
-
 # Equal numbers
 
 
@@ -317,43 +252,6 @@ def numbers(*values):
     """A block with an exposure time."""
     directory = table([entry(0x829A, 5, 1, 44)])
     return block([entry(0x8769, LONG, 1, 26)]) + directory + struct.pack(">II", *values)
-
-
-def test_equal_numbers(compared, run, folder):
-    one, two, other = (jpeg(app1(numbers(*it))) for it in ((10, 1250), (1, 125), (1, 60)))
-    assert compared(a=one, b=two)[:2] == (1, "only equal numbers are written otherwise")
-    assert compared("--equal-numbers")[:3] == (0, "the same but for how equal numbers are written", [])
-    assert compared("--equal-numbers", b=other)[:2] == (1, "different")
-    assert compared("--equal-numbers", "--ignore", "ExposureTime", b=other)[:2] == (0, BUT)
-    for side, octets in (("before", one), ("after", two)):
-        put(folder, {f"{side}/p.jpg": octets})
-    status, lines, _ = run("changed", "before", "after")
-    assert status == 1 and "1 only equal numbers are written otherwise: p.jpg" in lines
-    status, lines, _ = run("changed", "before", "after", "--equal-numbers")
-    assert status == 0
-    assert lines[:3] == ["1 picture compared: none changed.", "", "1 the same but for how equal numbers are written: p.jpg"]
-
-
-# MakerNotes
-
-
-def test_maker_notes(compared):
-    """Without MakerNotes neither their bytes count nor what only they lead to."""
-    from test_pairs import reached
-
-    for pair in reached():
-        if pair.status != 0 and compared(a=pair.before, b=pair.after)[1].endswith("can reach differ"):
-            assert compared("--ignore", "exif:MakerNote") == (0, BUT, [], ["ExifIFD:MakerNote"])
-            assert compared("--ignore", "Artist")[0] == 2
-
-
-# changed
-
-
-def test_changed_has_what_was_left_out(run, folder):
-    put(folder, {"before/a": jpeg(app1(exif(b"abc"))), "after/a": jpeg(app1(exif(b"xyz")))})
-    found = json.loads(run("changed", "before", "after", "--ignore", "Make", "--all", "--json")[1][0])
-    assert (found["result"], found["left_out"], found["fields"]) == (BUT, ["IFD0:Make"], [])
 
 
 # same
@@ -434,31 +332,6 @@ def test_a_group_by_fields_is_never_proved_and_keeps_nothing(run, folder):
     assert (group["basis"], group["count"]) == ("meaning", 2)
     for words, status in ((["--ignore", "*"], 3), (["--ignore", "Makr"], 3), (["--kind", "iptc", "--only", "dc:title"], 3)):
         assert run("same", "c", *words)[0] == status, words
-
-
-def test_least_fields(run, folder):
-    """Pictures that share a copyright notice alone, and pictures that share more. The number is that of the listing."""
-    (folder / "p").mkdir()
-    few, many = exif(b"abc"), block([MAKE, entry(0x0112, 3, 1, 1 << 16), entry(0x013B, 2, 4, b"Ada\0")])
-    put(
-        folder,
-        {
-            f"p/{name}": jpeg(app1(octets))
-            for name, octets in {"a": few, "b": few, "c": many, "d": many, "e": BLOCKS["HeaderCut"], "f": BLOCKS["HeaderCut"]}.items()
-        },
-    )
-    run("index", "p", "--catalogue", "c", "--quiet")
-
-    def groups(*words):
-        *found, last = (json.loads(it) for it in run("same", "c", "--json", *words)[1])
-        return [sorted(os.path.basename(it["path"]) for it in one["pictures"]) for one in found], last["small_groups"]
-
-    refused = ["e", "f"]  # whose fields nobody knows
-    assert groups("--least-fields", "1") == ([["a", "b"], ["c", "d"], refused], 0)
-    assert groups("--least-fields", "2") == groups("--least-fields", "3") == ([["c", "d"], refused], 1)
-    assert groups("--least-fields", "4") == ([refused], 2)
-    assert groups("--least-fields", "3", "--ignore", "Artist") == ([refused], 2)
-    assert "1 more, of pictures with fewer than 2 fields, is not listed" in run("same", "c", "--least-fields", "2")[1]
 
 
 # report
@@ -543,25 +416,6 @@ def test_each_key_that_exiftool_and_exiv2_print_is_found(folder, picture):
     assert [it for it in keys if it not in picture and not it.endswith("XMPToolkit")] == []
 
 
-@needs("exiftool")
-def test_an_exact_name_comes_first(folder):
-    """A property of the namespace xmp is named as ExifTool names the group of all XMP."""
-    put(folder, {"a.jpg": SMALL_JPEG})
-    words = "-XMP-xmp:CreateDate=2001 -XMP-exif:DateTimeDigitized=2002 -XMP-dc:title=T"
-    tool(folder, "exiftool", "-q", "-overwrite_original", *words.split(), "a.jpg")
-    picture = exifnorm.read(folder / "a.jpg")
-    assert (picture["xmp:CreateDate"], picture["DateTimeDigitized"], picture["XMP:title"]) == ("2001", "2002", "T")
-
-
-def test_names_that_nobody_knows():
-    assert [is_possible(it) for it in ("Exif.Photo.FNumber", "Iptc.Application2.Caption", "Exif.Photo.Fnumbr", "XMP:Nonsense")] == [
-        True,
-        True,
-        False,
-        True,
-    ]
-
-
 # ---- The labels of `captions` as words of --only and --ignore: each stands for its fields over Exif, IPTC and XMP. ExifTool writes the fields.
 
 VALUES = {"date created": "2001:02:03 04:05:06", "position": "12.5", "rights end": "2001:02:03", "embargo": "2001:02:03"}
@@ -597,25 +451,6 @@ def test_each_field_of_a_label(folder, called):
         ignored = ["--ignore", label.upper().replace(" ", "-"), "--ignore", "IPTC:EnvelopeRecordVersion", "--ignore", "XMP-x:*"]
         printed = called("changed", "before.c", "after.c", *ignored, "--files-from", "list", "--no-programs", "--json")[1]
         assert f'"{FIELDS[label][0]}' not in printed.split('"left_out"')[0], printed
-
-
-def test_a_label_wins_over_a_field(folder, called):
-    """`creator` is also the name of XMP-dc:creator, and `copyright` of IFD0:Copyright: the label has them and more."""
-    put(folder, {"a.jpg": jpeg(with_record(data_set(80, b"Anna"))), "b.jpg": jpeg(with_record(data_set(80, b"Otto")))})
-    for words, status in ((["--only", "creator"], 1), (["--ignore", "creator"], 0), (["--only", "XMP-dc:creator"], 0)):
-        assert called("compare", "a.jpg", "b.jpg", *words)[0] == status, words
-    assert "creator stands for IFD0:Artist, IPTC:By-line, XMP-dc:creator" in called("compare", "a.jpg", "b.jpg", "--only", "creator")[1]
-    assert "perhaps creator is meant" in called("compare", "a.jpg", "b.jpg", "--only", "creatoor")[2]
-
-
-@pytest.mark.parametrize("words, status", [([], 1), (["labels agree except title"], 1), (["headline agree"], 0)])
-def test_report(words, status, folder, called):
-    octets = jpeg(with_texts(artist=b"Anna"), with_record(data_set(80, b"Otto")))
-    put(folder, {"a.jpg": octets, "b.jpg": jpeg(app1(exif(b"abc")))})
-    (folder / "rules").write_text("\n".join(words), encoding="ascii")
-    found, printed, _ = called("check", "a.jpg", "b.jpg", *(["--rules", "rules"] if words else []))
-    assert (found, "creator 1" in printed) == (status, True)
-    assert ("left out though they contradict: creator 1" in printed) == (words == ["headline agree"])
 
 
 def test_what_is_no_label(folder, called):

@@ -3,7 +3,6 @@
 What decides the pixels is in the formats' standards: ITU T.81, the PNG specification, RFC 9649, TIFF 6.0.
 """
 
-import csv
 import hashlib
 import io
 import itertools
@@ -20,7 +19,6 @@ from made_files import A, B, Placed, app1, app1_xmp, app13, chunk, iim, jpeg, mp
 from made_raw import dng, srw
 from studio import SMALL_JPEG, needs, put, tool, write
 
-from exifnorm_pictures.catalogue.store import Catalogue
 from exifnorm_pictures.extract import coded_picture
 from exifnorm_pictures.model.budgets import BYTES_READ, Budget, TooMuch
 from exifnorm_pictures.model.found import Broken
@@ -208,14 +206,6 @@ def test_raw_pictures_of_other_makers(name, tmp_path):
     assert (coded_picture.of_file(bytes(tmp_path / name), Budget()).digest == "") is not name.endswith(".tif")
 
 
-@pytest.mark.parametrize("name", NONE)
-def test_damage(name, tmp_path):
-    """A damaged picture and one whose format has no digest here have different results."""
-    write(tmp_path / "a", NONE[name])
-    damage = coded_picture.of_file(bytes(tmp_path / "a"), Budget()).damage
-    assert bool(damage) == (name.split()[0] == "a" and "old tables" not in name), damage
-
-
 def test_a_png_that_is_cut_anywhere_says_in_which_chunk():
     parts = [b"\x89PNG\r\n\x1a\n", *(chunk(kind, bytes(9)) for kind in (b"IHDR", b"tEXt", b"IDAT", b"IDAT")), chunk(b"IEND", b"")]
     starts = [0, *itertools.accumulate(map(len, parts))]
@@ -223,22 +213,6 @@ def test_a_png_that_is_cut_anywhere_says_in_which_chunk():
         for length in range(start, end):
             found = coded_picture.of_stream(io.BytesIO(b"".join(parts)[:length]), Budget())
             assert (found.digest, int(re.findall(r"\d+", found.damage)[-1])) == ("", start), length
-
-
-def test_the_whole_file_is_kept(folder, called):
-    """--pixels keeps what sha256sum has, also of a file without a coded picture; without the option nothing is known."""
-    files = {"whole": SMALL_JPEG, "cut": SMALL_JPEG[:-20], "text": b"no picture"}
-    assert called("index", ".", "--catalogue", "plain", **files)[0] == 0
-    assert called("index", *(f"{it}.jpg" for it in files), "--catalogue", "c", "--pixels")[0] == 0
-    with Catalogue("plain") as plain, Catalogue("c") as made:
-        assert {it.sha256 for it in plain.pictures()} == {None}
-        found = {os.path.basename(it.path)[:-4].decode(): it for it in made.pictures()}
-    assert {name: it.sha256 for name, it in found.items()} == {name: hashlib.sha256(octets).hexdigest() for name, octets in files.items()}
-    assert {name: it.damage for name, it in found.items()} == {
-        "whole": "",
-        "cut": "the file ends before the end mark of its picture",
-        "text": "",
-    }
 
 
 def test_idat_in_other_pieces():
@@ -378,49 +352,6 @@ def test_groups_of_files(folder, called_lines):
     assert called_lines("same", "c", "--kind", "file", "--only", "title")[0] == 3
 
 
-@needs("exiftool")
-def test_scans_with_two_titles(folder, called_lines):
-    """--differ lists the groups whose pictures have other titles, by how they were made, with all their texts."""
-    titles = {"a": ("1998.7", "1998.8"), "b": ("1998.7", "1998.7"), "c": ("Vase", "VASE"), "d": ("1998.10", "1998.1"), "e": ("7", "")}
-    for at, (name, both) in enumerate(titles.items(), 1):
-        put(folder, {f"p/{name}{side}.jpg": SMALL_JPEG[:-2] + bytes([at]) + SMALL_JPEG[-2:] for side in (1, 2)})
-        for side, text in enumerate(both, 1):
-            tool(folder, "exiftool", "-q", "-overwrite_original", f"-IPTC:ObjectName={text}", "-By-line=Otto", f"p/{name}{side}.jpg")
-    called_lines("index", "p", "--catalogue", "c", "--pixels", "--quiet")
-    words = ("same", "c", "--kind", "pixels", "--differ", "title", "--columns", "creator")
-    status, lines, _ = called_lines(*words, "--json")
-    *groups, summary = map(json.loads, lines)
-    found = {os.path.basename(it["path"])[:2]: it["texts"] for group in groups for it in group["pictures"]}
-    differ = {name: both for name, both in titles.items() if name in "ade"}
-    assert found == {
-        f"{name}{at}": {"creator": ["Otto"], "title": [one] * bool(one)} for name, both in differ.items() for at, one in enumerate(both, 1)
-    }
-    assert (status, summary["groups"], summary["alike"], summary["alike_not_known"]) == (0, 3, 2, 0)
-    rows = list(csv.reader(called_lines(*words, "--csv")[1]))
-    assert {"creator", "title"} <= {*rows[0]} and [row[rows[0].index("title")] for row in rows[1:-1]].count("1998.10") == 1
-    assert any(line.startswith("2 groups aren't listed") for line in called_lines(*words)[1])
-
-
-def test_titles_that_may_differ(folder, called_lines):
-    """A picture that was not wholly read may have another title."""
-    refused = b"II*\0\xff\xff\0\0"
-    put(folder, {"p/a.jpg": jpeg(app1(refused)), "p/b.jpg": jpeg(app1(A))})
-    called_lines("index", "p", "--catalogue", "c", "--pixels", "--quiet")
-    status, lines, _ = called_lines("same", "c", "--kind", "pixels", "--differ", "title")
-    assert status == 2 and any("isn't sure" in line for line in lines), lines
-
-
-def test_a_catalogue_without_digests(folder, called_lines):
-    put(folder, {"p/a.jpg": jpeg(app1(A)), "p/b.jpg": jpeg(app1(B)), "p/c.webp": b"RIFF\0\0\0\0WEBPVP8 "})
-    called_lines("index", "p", "--catalogue", "c", "--quiet")
-    status, lines, errors = called_lines("same", "c", "--kind", "pixels")
-    assert (status, lines) == (3, []) and "index --pixels" in errors
-    assert "unchanged" not in called_lines("index", "p", "--catalogue", "c", "--pixels", "--quiet")[1][-1], "they are looked at again"
-    assert called_lines("index", "p", "--catalogue", "c", "--pixels", "--quiet")[1][-1].startswith("3 unchanged")
-    assert called_lines("index", "p", "--catalogue", "c", "--quiet")[1][-1].startswith("3 unchanged"), "what is known stays"
-    assert called_lines("same", "c", "--kind", "pixels")[0] == 0
-
-
 ABSENT = ("missing after", None)
 NEW = ("missing before", None)
 # What is in the folders b and a, and what became of each picture
@@ -457,12 +388,3 @@ def test_what_became_of_a_picture(name, folder, changes):
     put(folder, files)
     found = changes("b", "a", "--pixels")[1]
     assert {path: (it["result"], (it["moved_to"] or {}).get("path")) for path, it in found.items()} == expected
-
-
-def test_same_beside_what_was_indexed_without(folder, called_lines):
-    put(folder, {"p/a.jpg": jpeg(app1(A)), "q/b.jpg": jpeg(app1(A))})
-    called_lines("index", "p", "--catalogue", "with", "--pixels", "--quiet")
-    called_lines("index", "q", "--catalogue", "without", "--quiet")
-    called_lines("catalogue", "merge", "with", "without", "--catalogue", "c")
-    status, _, errors = called_lines("same", "c", "--kind", "pixels")
-    assert status == 3 and "1 picture has no digest" in errors

@@ -13,10 +13,9 @@ from collections import Counter
 import pytest
 from hypothesis import example, given, strategies as st
 from made_blocks import ASCII, LONG, SHORT, block, entry, segment, table
-from made_files import app1, app1_xmp, app13, chunk, exif, iim, jpeg, png, resource, title, xmp
+from made_files import app1, app1_xmp, app13, exif, iim, jpeg, png, resource, title, xmp
 from studio import SMALL_JPEG, needs
 from test_jpeg_heads import COMPARED
-from test_list import record
 from test_pairs import damages, parts, reached, segments, texts
 
 from exifnorm_pictures.comparison.two_pictures import compare, read
@@ -141,9 +140,6 @@ def test_a_picture_that_is_saved_while_it_is_compared(save, when, folder, monkey
     assert found.proved.blocks in (None, "same" if is_same else "different")
 
 
-PLAIN = jpeg(app1(exif(b"abc")))
-
-
 def verdict_of_changed(folder, run, before, after):
     for side, octets in (("before", before), ("after", after)):
         (folder / side).mkdir(exist_ok=True)
@@ -175,10 +171,6 @@ def picture(artist, orientation=1, time=(1, 125)):
     return jpeg(app1(block(head) + artist + bytes(len(artist) % 2) + inside))
 
 
-def rows(found):
-    return {it["name"]: tuple(side and side["plain"] for side in (it["before"], it["after"])) for it in found["fields"]}
-
-
 @needs("exiftool")
 def test_a_record_that_is_added_before_a_trailer_with_one(run):
     """The trailer's record is still the trailer's, and didn't change."""
@@ -189,77 +181,12 @@ def test_a_record_that_is_added_before_a_trailer_with_one(run):
     assert (status, [(it["name"], it["before"]) for it in found["fields"]]) == (1, [("IPTC:Keywords", None)])
 
 
-def test_values_that_look_alike_are_exact(run):
-    """What people see is equal, and what is in the file isn't."""
-    status, found = compared(run, picture(b"Anna"), picture(b"Anna "))
-    assert status == 1 and rows(found) == {"IFD0:Artist": ('ascii[5] "Anna"', 'ascii[6] "Anna "')}
-
-
-def gps(latitude, chosen=(1, 2, 3, 4)):
-    """A JPEG with a position, whose latitude is three fractions, or with some of its four fields."""
-    at = 8 + 2 + 12 + 4 + 2 + len(chosen) * 12 + 4
-    tags = [entry(1, ASCII, 2, 0x4E000000), entry(2, RATIONAL, 3, at), entry(3, ASCII, 2, 0x45000000), entry(4, RATIONAL, 3, at + 24)]
-    numbers = struct.pack(">12I", *latitude, 7, 1, 30, 1, 0, 1)
-    return jpeg(app1(block([entry(0x8825, LONG, 1, 26)]) + table([tags[number - 1] for number in chosen]) + numbers))
-
-
-@pytest.mark.parametrize("chosen", [it for size in range(1, 5) for it in itertools.combinations((1, 2, 3, 4), size)])
-def test_a_position_that_moved_is_one_row_if_both_are_whole(chosen, run):
-    """A part of a position is not said to be missing."""
-    _, found = compared(run, gps((47, 1, 30, 1, 0, 1)), gps((48, 1, 30, 1, 0, 1), chosen))
-    one_row = {"Composite:GPSPosition": ("47.500000° N, 7.500000° E", "48.500000° N, 7.500000° E")}
-    assert rows(found) == one_row if len(chosen) == 4 else not rows(found).keys() & one_row.keys()
-
-
-def test_a_position_in_other_fractions_is_exact(run):
-    _, found = compared(run, gps((47, 1, 30, 1, 0, 1)), gps((47, 1, 1800, 60, 0, 1)))
-    assert rows(found) == {"GPS:GPSLatitude": ("rational[3] 47/1 30/1 0/1", "rational[3] 47/1 1800/60 0/1")}
-
-
-@pytest.mark.parametrize(
-    "one, other, equal", [((1, 2), (2, 4), True), ((0, 1), (0, 0), False), ((1, 0), (0, 1), False), ((1, 2), (1, 3), False)]
-)
-def test_which_numbers_are_equal(one, other, equal, run):
-    _, found = compared(run, picture(b"Anna", time=one), picture(b"Anna", time=other))
-    assert [it["equal_number"] for it in found["fields"]] == [equal]
-
-
-def test_a_long_text_is_shown_whole(run):
-    text = b"A vase of clay. " * 60
-    record = app13(resource(0x0404, b"\x1c\x02\x78" + struct.pack(">H", len(text)) + text))
-    packet = app1_xmp(xmp(f"<dc:source>{text.decode()}end</dc:source>"))
-    _, found = compared(run, jpeg(), jpeg(record, packet))
-    assert rows(found)["IPTC:Caption-Abstract"] == (None, text.decode().rstrip())
-    assert rows(found)["XMP-dc:source"] == (None, text.decode() + "end")
-
-
-def test_a_text_can_not_control_the_terminal(run):
-    _, out, _ = run("compare", "a.jpg", "b.jpg", before=jpeg(app13(resource(0x0404, iim(b"\x1b[31m")))), after=jpeg())
-    assert "\x1b" not in out
-
-
 # Verdicts of their own
 
 
 def test_two_pictures_without_metadata(run):
     status, out, _ = run("compare", "a.jpg", "b.jpg", before=jpeg(), after=png())
     assert (status, out) == (0, "Nothing to compare: neither picture has Exif, IPTC or XMP.\n")
-
-
-def test_the_same_metadata_in_other_formats(run):
-    status, out, _ = run("compare", "a.jpg", "b.jpg", before=PLAIN, after=png(chunk(b"eXIf", exif(b"abc"))))
-    assert status == 0 and out.startswith("The same metadata.\n")
-
-
-def test_names_that_are_no_utf8(run, folder):
-    names = [str(folder).encode() + b"/\xe9" + it for it in (b"1.jpg", b"2.jpg")]
-    for name, octets in zip(names, (PLAIN, jpeg(app1(exif(b"xyz"))))):
-        with open(name, "wb") as file:
-            file.write(octets)
-    status, out, _ = run("compare", *map(os.fsdecode, names), "--json")
-    assert status == 1 and [it["path_hex"] for it in json.loads(out)["pictures"]] == [it.hex() for it in names]
-    status, out, _ = run("compare", *map(os.fsdecode, names))
-    assert r"\xe91.jpg" in out
 
 
 # Others
@@ -296,25 +223,3 @@ def test_different_texts_never_look_alike(before, after):
 def test_no_invisible_character_is_forgotten():
     shown = {character: told_apart("a", f"a{character}")[1] for character in ignorable()}
     assert len(shown) > 4000 and not [it for it, text in shown.items() if text != f"a<U+{ord(it):04X}>"]
-
-
-def test_contradictions_never_look_alike(folder, called):
-    packet = app1_xmp(xmp("<dc:title>Otto\u3164</dc:title>"))
-    (folder / "a.jpg").write_bytes(jpeg(app13(resource(0x0404, record([("title", "Otto")]))), packet))
-    for command in (["check"], ["show", "--captions"]):
-        assert "Otto<U+3164>" in called(*command, "a.jpg")[1]
-
-
-def test_values_that_look_alike(folder, called):
-    """Letters with accents of their own look as composed ones; a colour profile shows in no field."""
-    (folder / "a.jpg").write_bytes(jpeg(app1_xmp(title("Z\u00fcrich")), segment(0xFE, b"one")))
-    (folder / "b.jpg").write_bytes(jpeg(app1_xmp(title("Zu\u0308rich"))))
-    (folder / "c.jpg").write_bytes(jpeg(app1_xmp(title("Z\u00fcrich"))))
-    for words in (["compare", "a.jpg", "b.jpg"], ["compare", "a.jpg", "b.jpg", "--csv"]):
-        assert "Zu<U+0308>rich" in called(*words)[1]
-    (row,) = json.loads(called("compare", "a.jpg", "b.jpg", "--json")[1])["fields"]
-    assert (row["before"]["value"], row["after"]["value"]) == ("Z\u00fcrich", "Zu\u0308rich")
-    status, printed, _ = called("compare", "a.jpg", "c.jpg")
-    assert status == 1 and printed.endswith("Other parts of the files differ: comment removed.\n")
-    assert json.loads(called("compare", "a.jpg", "c.jpg", "--json")[1])["coded_picture"] == "the same but for other parts"
-    assert "parts of the files" not in called("compare", "b.jpg", "c.jpg")[1]

@@ -66,11 +66,6 @@ def test_a_text_is_one_edit_in_all_standards(before, after, text):
     assert lines(caption(before), caption(after)) == [text]
 
 
-def test_lists_are_sets_of_members():
-    assert lines(keywords("a", "b"), keywords("b", "c", "d")) == ["keywords (IPTC): [-a-], {+c+}, {+d+}"]
-    assert lines(keywords("a", "b"), keywords("b", "a")) == ["keywords (IPTC): the same list in another order"]
-
-
 EARLIER = [
     ("exif", "9003", "2020:01:31 23:10:00"),
     ("exif", "9004", "2020:01:31 23:10:00"),
@@ -96,39 +91,6 @@ def test_all_dates_that_move_alike_are_one_edit():
     assert "1 h later" in line
     (line,) = lines(taken(("iptc", "2:60", "101000+0100")), taken(("iptc", "2:60", "111000+0200")))
     assert "later" not in line, "with another zone the difference isn't known"
-
-
-def test_a_block_that_went_is_one_edit():
-    record = keywords("a") + caption("vase")[:1]
-    assert [line_of(it) for it in edits_of(differences(record, [])).values()] == ["IPTC (caption, keywords) removed"]
-    assert [line_of(it) for it in edits_of(differences(record, []), False).values()] == [
-        "caption (IPTC) removed",
-        "keywords (IPTC) removed",
-    ]
-
-
-def test_a_position_is_one_edit():
-    """Unless all of Exif went with it: then that is the edit."""
-    place = [field("gps", tag, "ASCII", 2, f'"{text}"') for tag, text in (("0001", "N"), ("0002", "48"), ("0003", "E"), ("0004", "2"))]
-    other = [field("gps", tag, "ASCII", 2, f'"{text}"') for tag, text in (("0001", "S"), ("0002", "48"), ("0003", "E"), ("0004", "3"))]
-    (line,) = lines(place, other)
-    assert line.startswith("position (Exif): [-") and line.endswith("+}")
-    assert lines([], place)[0].startswith("position (Exif): {+")
-    whole = [*place, *one("gps", "0007", "ASCII", "x"), *one("main", "010f", "ASCII", "x"), *one("main", "013b", "ASCII", "x")]
-    assert [line_of(it) for it in edits_of([it._replace(part="Exif") for it in differences(whole, [])]).values()] == [
-        "Exif (creator, position) removed"
-    ]
-
-
-def test_what_programs_write_by_themselves_counts_only_if_nothing_else_was_edited():
-    saved = one("xmp", "xmp:MetadataDate", "text", "2020"), one("xmp", "xmp:MetadataDate", "text", "2021")
-    assert lines(saved[0], saved[1]) == ["what programs write by themselves (XMP) changed"]
-    both = lines(saved[0] + caption("a"), saved[1] + caption("b"))
-    assert both == ["caption (IPTC, XMP): [-a-]{+b+}", "what programs write by themselves (XMP) changed"]
-    kinds = Kinds()
-    for before, after in ((caption("a"), caption("b")), (saved[0] + caption("a"), saved[1] + caption("b"))):
-        kinds.add(b"p", differences(before, after))
-    assert [it.pictures for it in kinds.groups()] == [2]
 
 
 # Laws
@@ -186,40 +148,6 @@ def test_each_picture_is_in_one_group_in_any_order(changes, by_chance):
     assert grouped(pictures) == (groups, unchanged)
 
 
-def groups_of(*changes):
-    kinds = Kinds()
-    for number, (before, after) in enumerate(changes):
-        kinds.add(b"%04d.jpg" % number, differences(caption(before), caption(after)))
-    return [(it.pictures, [line_of(one) for one in it.edits]) for it in kinds.groups()]
-
-
-def test_one_value_for_all_is_one_edit_whatever_was_there():
-    earlier = ["", "Museum", "River Museum, 1820", "Museum of the river"]
-    assert groups_of(*((it, "Riverside Museum") for it in earlier)) == [(4, ["caption (IPTC, XMP): {+Riverside Museum+}"])]
-
-
-def test_fields_whose_long_names_begin_alike_are_two():
-    """One value that both were given makes no edit of them, and each is shown shortened."""
-    kinds = Kinds()
-    for end in "ab":
-        given = one("xmp", f"dc:{'f' * 1000}{end}", "text", "v")
-        kinds.add(end.encode(), differences(caption("a vase"), caption("a vase") + given))
-    shown = [line_of(it) for group in kinds.groups() for it in group.edits]
-    assert len(set(shown)) == 2 and max(map(len, shown)) < 500
-
-
-def test_many_texts_of_their_own_are_one_group():
-    """But what was removed isn't hidden among them."""
-    changes = (
-        [("", "plate" + "e" * number) for number in range(50)] + [(f"plate {number}", "") for number in range(2)] + [("a vase", "a bowl")]
-    )
-    assert groups_of(*changes) == [
-        (1, ["caption (IPTC, XMP): [-vase-]{+bowl+}"]),
-        (2, ["caption (IPTC, XMP) removed"]),
-        (50, ["caption (IPTC, XMP): added, different words in each"]),
-    ]
-
-
 def test_numbers_that_are_only_written_otherwise_come_last():
     """However few pictures have them: nothing was edited there."""
     kinds = Kinds()
@@ -230,27 +158,6 @@ def test_numbers_that_are_only_written_otherwise_come_last():
     assert [line_of(it.edits[0]) for it in kinds.groups()] == [
         "caption (IPTC, XMP): .. {+, recto+}",
         "equal numbers (Exif) written otherwise",
-    ]
-
-
-def test_a_day_of_keywords():
-    """Of 343 pictures 69 get a keyword, whatever they had, and six lose their rating; three went wrong."""
-    rating = one("xmp", "xmp:Rating", "text", "3")
-    days = [(keywords(*"abc"[: number % 3]), keywords(*"abc"[: number % 3], "digitised")) for number in range(69)]
-    days += [(one("xmp", "xmp:Rating", "text", str(number % 2)) + caption("a"), caption("a")) for number in range(6)]
-    days += [(caption("a bowl, 1820") + keywords("a"), caption("a bowl, 1280") + keywords("a", "digitised"))]
-    days += [(one("iptc", "2:80", "octets", "Lena"), one("iptc", "2:80", "octets", "Unknown"))]
-    days += [(taken(("exif", "9003", "2016:09:28 18:18:05")) + rating, taken(("exif", "9003", "2031:01:01 00:00:00")) + rating)]
-    kinds = Kinds()
-    for number, (before, after) in enumerate(days):
-        kinds.add(b"%02d" % number, differences(before, after))
-    assert [kinds.add(b"same", differences(caption("a"), caption("a"))) for _ in range(265)] == [0] * 265
-    assert sum(it.pictures for it in kinds.kinds) == 78
-    groups = kinds.groups()
-    assert [(it.pictures, it.names) for it in groups if it.is_odd] == [(1, [b"75"]), (1, [b"76"]), (1, [b"77"])]
-    assert [(it.pictures, line_of(it.edits[0])) for it in groups if not it.is_odd] == [
-        (6, "XMP-xmp:Rating removed"),
-        (69, "keywords (IPTC): {+digitised+}"),
     ]
 
 
@@ -290,15 +197,6 @@ def test_edits_that_differ_never_look_alike(texts):
     assert len(set(shown)) == len(groups)
 
 
-@given(st.lists(st.integers(0, 9999), min_size=11, max_size=14, unique=True), st.sampled_from(["harbour", "12 vases", "market hall no. 4"]))
-def test_a_picture_whose_words_have_another_shape_is_odd(numbers, word):
-    """Though each of the others has words of its own, too."""
-    changes = [("a harbour", f"a market, plate {number}") for number in numbers]
-    groups = groups_of(*changes[:5], ("a harbour by Lena", f"a harbour by {word}"), *changes[5:])
-    assert [count for count, _ in groups] == [1, len(numbers)]
-    assert groups[1][1] == ["caption (IPTC, XMP): different numbers in each: [-harbour-]{+market, plate #+}"]
-
-
 def test_a_picture_that_was_not_edited_in_a_standard_that_it_has_is_named():
     """Where the others of its group were."""
     found = summary.Summary(most_names=3)
@@ -309,25 +207,6 @@ def test_a_picture_that_was_not_edited_in_a_standard_that_it_has_is_named():
         found.add(Compared(b"%d.jpg" % number, Result.DIFFERENT, changes=differences(*texts), verdicts=verdicts))
     (group,) = found.kinds.groups()
     assert [it.line for it in lacking_of(group)] == ["caption not edited in the XMP of 4.jpg"]
-
-
-# An archive's day: each caption gets the same words, and three pictures get something else
-
-
-def test_words_are_coloured_if_that_is_asked_for():
-    """Otherwise brackets mark them. A line is as wide as the screen, and no text of a picture reaches the terminal as it is."""
-    found = summary.Summary()
-    found.add(
-        Compared(
-            b"a\x1b.jpg", Result.DIFFERENT, changes=differences(caption("a \x1b[31m vase of 1943"), caption("a \x1b[31m vase of 1093"))
-        )
-    )
-    for colours in (False, True):
-        page_lines = list(page.lines(found, Counter({Result.DIFFERENT: 1}), (), page.Style(40, colours)))
-        bare = [re.sub("\x1b\\[(31;9|32;4)?m", "", it) for it in page_lines]
-        assert "\x1b" not in "".join(bare) and max(map(len, bare)) <= 60
-        assert ("\x1b[31;9m1943\x1b[m\x1b[32;4m1093\x1b[m" in "".join(page_lines)) == colours
-        assert ("[-1943-]{+1093+}" in "".join(page_lines)) != colours
 
 
 # ---- The summary of `changed`: what changed by field and by value, with the number of pictures.
@@ -448,9 +327,3 @@ def test_no_page_is_longer_than_30_lines(folder):
                 Compared(b"%02d" % number, Result.DIFFERENT, changes=differences(*(changed_one("xmp", "x:y", "text", it) for it in texts)))
             )
         assert 5 <= len(list(page.lines(found, counts))) <= page.LINES
-
-
-# The whole page
-
-
-# Fields of blocks that came or went

@@ -1,20 +1,14 @@
 """`export`: the tables of a catalogue, read by SQLite, against what ExifTool reads of the same files."""
 
-import csv
-import io
 import json
 import os
-import re
 import sqlite3
 from pathlib import Path
 
 import pytest
 from hypothesis import given, settings, strategies as st
 from made_files import app1, app1_xmp, data_set, exif, jpeg, with_record, with_texts, xmp
-from made_more_files import gif
 from studio import SMALL_JPEG, TOP, needs, put, sql_rows, tool
-from test_groups import FILES as TWINS
-from test_maker_notes import noted
 
 from exifnorm_pictures.export.rows import FieldRows, Tables
 from exifnorm_pictures.fields.field import Field
@@ -23,7 +17,6 @@ from exifnorm_pictures.model.columns import Damaged
 from exifnorm_pictures.model.xmp_values import Array, Literal, Structure, Uri
 
 SAMPLES = os.path.join(TOP, "samples", "before")
-PAGE = (Path(TOP) / "docs" / "CATALOGUE.md").read_text(encoding="utf-8")
 LONG = "Ein Gefäß aus Köln, zerbrochen und geklebt. " * 20
 
 
@@ -56,84 +49,6 @@ def asked(base, query, *values):
 
 
 # Against ExifTool
-
-
-@needs("exiftool")
-def test_small_angles_have_the_form_of_others(run, folder):
-    """A position near the equator or near Greenwich has no exponent, on a line and in each table."""
-    north, east = 0.00001, -0.000012
-    put(folder, {"p/a.jpg": SMALL_JPEG})
-    words = [f"-GPSLatitude={north}", f"-GPSLongitude={-east}", "-GPSLatitudeRef=N", "-GPSLongitudeRef=W"]
-    tool(folder, "exiftool", "-q", "-overwrite_original", *words, "p/a.jpg")
-    run("index", "p", "--catalogue", "c", "--quiet")
-    texts = {"captions": run("show", "--captions", "p"), "list": run("list", "c", "--columns", "position")}
-    for words in ("show --captions p", "show --captions c", "list c --columns position"):
-        (row,) = csv.DictReader(io.StringIO(run(*words.split(), "--csv")))
-        texts[words] = f"{row['latitude']}, {row['longitude']}"
-    for words, text in texts.items():
-        (place,) = re.findall(r"(-?[0-9.]+), (-?[0-9.]+)$", text, re.M)
-        assert tuple(map(float, place)) == (north, east), words
-    run("catalogue", "export", "c", "t")
-    (place,) = asked(sqlite3.connect("t"), "SELECT latitude, longitude FROM pictures")
-    assert place == pytest.approx((north, east), rel=1e-3)
-
-
-def test_parts_that_are_not_read(exported, run, folder):
-    put(folder, {"p/a.jpg": SMALL_JPEG + b"more", "p/b.jpg": SMALL_JPEG})
-    rows = asked(exported("p"), "SELECT path, part FROM not_read JOIN pictures ON id = picture ORDER BY position")
-    parts = json.loads(run("show", "p/a.jpg", "--json", status=2))["not_read"]
-    assert rows == [(str(folder / "p" / "a.jpg"), it) for it in parts] != []
-
-
-def test_files(exported, folder):
-    """What the file system has of them, and their formats."""
-    files = {"a.jpg": (jpeg(), "JPEG"), "b.gif": (gif(), "GIF")}
-    put(folder / "p", {name: octets for name, (octets, _) in files.items()})
-    for name in files:
-        os.utime(folder / "p" / name, (0, 10**9))
-    found = asked(exported("p"), "SELECT path, folder, type, size, modified FROM pictures ORDER BY path")
-    rest = [(str(folder / "p" / name), str(folder / "p"), kind, len(octets)) for name, (octets, kind) in files.items()]
-    assert found == [(*it, "2001-09-09 01:46:40") for it in rest]
-
-
-def test_coded_pictures(exported, folder):
-    """Files have the same value exactly if they have the same coded picture, and none if it isn't known."""
-    other = SMALL_JPEG.replace(b"\xff\xdb\0\x43\0", b"\xff\xdb\0\x43\1", 1)  # another table of quantization
-    put(folder / "p", {"a.jpg": jpeg(app1(exif(b"Abc"))), "b.jpg": jpeg(app1(exif(b"Xyz"))), "c.jpg": other, "d.gif": gif()})
-    a, b, c, d = (it for it, in asked(exported("p", words=["--pixels"]), "SELECT coded_picture FROM pictures ORDER BY path"))
-    assert a == b and a != c and c and d is None
-
-
-def test_each_table_has_what_the_other_commands_print(exported, run, folder):
-    put(
-        folder,
-        {
-            **{f"p/{name}.jpg": octets for name, octets in TWINS.items()},
-            "p/contradicts.jpg": jpeg(with_texts(artist=b"Anna"), with_record(data_set(80, b"Otto"))),
-            "p/bare.jpg": jpeg(),
-            "p/notes.txt": b"no picture",
-        },
-    )
-    base = exported("p")
-    groups = [json.loads(it) for it in run("same", "c", "--json", status=2).splitlines()][:-1]
-    keep = {None: None, False: 0, True: 1}
-    expected = [(it["number"], it["basis"], one["path"], keep[one["keep"]]) for it in groups for one in it["pictures"]]
-    assert asked(base, "SELECT number, kind, path, keep FROM groups JOIN pictures ON id = picture ORDER BY number, path") == sorted(
-        expected, key=lambda it: (it[0], it[2])
-    )
-    assert asked(base, "SELECT path, label, kind FROM conflicts JOIN pictures ON id = picture") == [
-        (str(folder / "p/contradicts.jpg"), "creator", "different")
-    ]
-    states = dict(asked(base, "SELECT replace(path, ? || '/p/', ''), state FROM pictures", str(folder)))
-    assert [states[it] for it in ("a1.jpg", "i1.jpg", "f1.jpg", "bare.jpg", "notes.txt")] == [
-        "accepted",
-        "refused",
-        "refused",
-        "no metadata",
-        "not read",
-    ]
-    assert asked(base, "SELECT count(*) FROM not_read")[0][0] == 2, "the bytes behind two pictures"
-    assert asked(base, "PRAGMA integrity_check") == [("ok",)] and asked(base, "PRAGMA foreign_key_check") == []
 
 
 WRITTEN = {  # by ExifTool
@@ -176,43 +91,7 @@ def test_captions_are_those_of_the_files(run, folder):
     assert set(asked(sqlite3.connect("t"), query, str(folder))) == expected
 
 
-@needs("exiftool")
-@needs("exiftool")
-def test_values_of_maker_notes(run, folder):
-    """As ExifTool prints them, where `index --maker-notes` has asked it; of the others it is said that they weren't read."""
-    put(folder / "p", {"a.jpg": noted(b"Annette"), "b.jpg": jpeg(app1(exif(b"Nik")))})
-    run("index", "p", "--catalogue", "c", "--quiet")
-    assert "MakerNotes were not read: 1 picture" in run("catalogue", "export", "c", "t")
-    assert asked(sqlite3.connect("t"), "SELECT count(*) FROM maker_notes") == [(0,)]
-    run("index", "p", "--catalogue", "c", "--quiet", "--again", "--maker-notes")
-    assert "MakerNote" not in run("catalogue", "export", "c", "t")
-    assert json.loads(run("catalogue", "export", "c", "t", "--json"))["maker_notes_not_read"] == 0
-    read = json.loads(tool(folder, "exiftool", "-j", "-G1", "-n", "-MakerNotes:all", "p/a.jpg"))[0]
-    names = {f"{group.partition(':')[0]}:{group.partition(':')[2]}": str(value) for group, value in read.items() if group != "SourceFile"}
-    rows = asked(sqlite3.connect("t"), "SELECT name, value FROM maker_notes JOIN pictures ON id = picture WHERE path LIKE '%a.jpg'")
-    assert dict(rows) == names and names["Canon:OwnerName"] == "Annette"
-
-
 # The page
-
-
-def test_the_page_has_each_column(exported):
-    base = exported(SAMPLES)
-    tables = {it for it, in asked(base, "SELECT name FROM sqlite_master WHERE type = 'table' AND name NOT LIKE 'sqlite%'")}
-    parts = dict(it.split("\n", 1) for it in re.split(r"(?m)^## ", PAGE)[1:])
-    assert {it for it in parts if it in tables} == tables
-    for table in tables:
-        described = [word for cell in re.findall(r"(?m)^\| (`[^|]*) \|", parts[table]) for word in re.findall(r"`(\w+)`", cell)]
-        assert described == [it[1] for it in asked(base, f"PRAGMA table_info({table})")], table
-
-
-@needs("exiftool")
-def test_the_questions_of_the_page(exported):
-    base = exported(SAMPLES, words=["--pixels"])
-    questions = [it for block in re.findall(r"(?ms)^```sql\n(.*?)^```$", PAGE) for it in block.split(";") if it.strip()]
-    assert len(questions) > 5
-    for it in questions:
-        assert asked(base, it) or "coded_picture" in it, it  # the copy for the press has other pixels
 
 
 @pytest.mark.parametrize(
@@ -239,14 +118,6 @@ def test_no_table_is_read_whole(query, exported):
 def with_long_texts(text=LONG):
     description = f"<dc:description><rdf:Alt><rdf:li xml:lang='x-default'>{text}</rdf:li></rdf:Alt></dc:description>"
     return jpeg(with_texts(artist=b"Anna"), with_record(data_set(120, text[:2000].encode("latin-1"))), app1_xmp(xmp(description)))
-
-
-def test_texts_of_a_sidecar_stay(exported):
-    Path("a.jpg").write_bytes(with_long_texts())
-    Path("a.xmp").write_bytes(xmp("<dc:title><rdf:Alt><rdf:li xml:lang='x-default'>Vase</rdf:li></rdf:Alt></dc:title>"))
-    base = exported(".", words=["--sidecars"])
-    query = "SELECT label, block, text FROM captions WHERE standard = 'XMP' ORDER BY label"
-    assert asked(base, query) == [("caption", None, LONG.strip()), ("title", "XMP sidecar", "Vase")]
 
 
 def test_enormous_texts_are_null(run):
@@ -278,30 +149,7 @@ def test_groups_whose_files_are_gone_are_counted(run, left, rows, said):
     assert "left out" not in run("catalogue", "export", "c", "t", "--no-look"), "nobody has looked at the files"
 
 
-def test_blank_comments_are_no_texts(run, folder):
-    """Cameras leave room for a comment. Its file isn't read for that, which would take long in an archive."""
-    from test_captions import LONG as _, UNDEFINED, block, entry, table  # noqa: F401
-
-    for number, octets in enumerate((b"ASCII\0\0\0" + b" " * 200, bytes(208), b"\0" * 8 + b" " * 200)):
-        inside = table([entry(0x9286, UNDEFINED, len(octets), 8 + 2 + 12 + 4 + 2 + 12 + 4)]) + octets
-        (folder / f"{number}.jpg").write_bytes(jpeg(app1(block([entry(0x8769, 4, 1, 26)]) + inside)))
-    run("index", ".", "--catalogue", "c", "--quiet")
-    run("catalogue", "export", "c", "t", "--no-look")
-    assert asked(sqlite3.connect("t"), "SELECT * FROM captions") == []
-
-
 # Names and files
-
-
-def test_paths(exported, folder):
-    names = [b"\xff.jpg", rb"\xff.jpg", "Zürich\n.jpg".encode()]
-    for it in names:
-        with open(os.fsencode(folder) + b"/" + it, "wb") as file:
-            file.write(jpeg(app1(exif(b"abc"))))
-    base = exported(".")
-    found = asked(base, "SELECT replace(path, ?, ''), path_is_escaped, path_bytes FROM pictures ORDER BY 2, 1", f"{folder}/")
-    raw = os.fsencode(folder) + b"/\xff.jpg"
-    assert found == [("Zürich\n.jpg", 0, None), (r"\xff.jpg", 0, None), (r"\xff.jpg", 1, raw)]
 
 
 def test_a_failure_leaves_the_earlier_export(exported, run, folder, monkeypatch):
@@ -314,17 +162,6 @@ def test_a_failure_leaves_the_earlier_export(exported, run, folder, monkeypatch)
     assert sorted(it.name for it in folder.iterdir()) == ["a.jpg", "c", "t"]
 
 
-def test_some_pictures(exported, run, folder):
-    for name in "abc":
-        Path(f"{name}.jpg").write_bytes(TWINS["a1"])
-    exported(".")
-    Path("list").write_text("a.jpg\nb.jpg\n", encoding="utf-8")
-    run("catalogue", "export", "c", "t", "--files-from", "list")
-    base = sqlite3.connect("t")
-    assert asked(base, "SELECT replace(path, ?, '') FROM groups JOIN pictures ON id = picture", f"{folder}/") == [("a.jpg",), ("b.jpg",)]
-    assert asked(base, "SELECT count(*), count(DISTINCT picture) FROM fields") == [(2, 2)]
-
-
 def test_texts_of_a_damaged_catalogue(exported, run):
     """Halves of characters, which XMP of a damaged catalogue may have."""
     Path("a.jpg").write_bytes(jpeg(app1(exif(b"abc"))))
@@ -332,28 +169,6 @@ def test_texts_of_a_damaged_catalogue(exported, run):
     sql_rows("c", "UPDATE blocks SET fields = CAST(? AS BLOB)", r'[["xmp","dc:source","text",1,["\ud800"]]]')
     run("catalogue", "export", "c", "t")
     assert asked(sqlite3.connect("t"), "SELECT value FROM fields") == [(r"\ud800",)]
-
-
-MISSING = """
-pictures.path_bytes pictures.problem pictures.detail pictures.exif pictures.iptc pictures.xmp pictures.coded_picture pictures.sha256
-pictures.damage pictures.latitude pictures.longitude blocks.cause blocks.repair fields.number captions.block captions.guess conflicts.detail
-"""
-
-
-def test_what_is_missing_is_null(exported, folder):
-    """A column that may be NULL is never an empty text, and a number that is 0 isn't missing."""
-    put(folder, {"p/none.jpg": SMALL_JPEG})
-    base = exported(SAMPLES, "p")
-    missing = set()
-    for (table,) in asked(base, "SELECT name FROM sqlite_master WHERE type = 'table' AND name NOT LIKE 'sqlite%'"):
-        for _, column, _, is_always_there, _, is_key in asked(base, f"PRAGMA table_info({table})"):
-            if not is_always_there and not is_key:
-                empty, null = asked(base, f"SELECT ifnull(sum({column} = ''), 0), ifnull(sum({column} IS NULL), 0) FROM {table}")[0]
-                assert empty == 0, (table, column)
-                missing |= {f"{table}.{column}"} if null else set()
-    assert missing >= set(MISSING.split()), missing
-    (row,) = FieldRows().of_block(packed([Field("main", "0112", "SHORT", 1, (0,))]).octets)
-    assert row.cells[-1] == 0
 
 
 def test_no_text_has_nul(exported, folder):
@@ -427,18 +242,6 @@ def test_fields_that_a_damaged_catalogue_has(octets):
     assert len(rows.of_block(ONE_PROPERTY)) == len(rows.of_block(ONE_DATASET)) == 1
     with pytest.raises(Damaged):
         rows.of_block(octets)
-
-
-def test_fields_of_two_kinds_in_a_block():
-    """As nothing here writes it, and a catalogue may have it; spaces, too."""
-    octets = [ONE_PROPERTY[:-1] + b"," + ONE_DATASET[1:], ONE_DATASET[:-1] + b"," + ONE_PROPERTY[1:], ONE_PROPERTY.replace(b",", b", ")]
-    rows = FieldRows()
-    assert [[row.cells[0] for row in rows.of_block(it)] for it in octets] == [
-        ["XMP-dc:a", "IPTC:ObjectName"],
-        ["IPTC:ObjectName", "XMP-dc:a"],
-        ["XMP-dc:a"],
-    ]
-    assert rows.of_block(None) == rows.of_block(b"[]") == []
 
 
 def test_a_temporary_file_that_is_not_read(called, folder, monkeypatch):

@@ -21,8 +21,7 @@ from unittest import mock
 import pytest
 from exact_fields import field
 from hypothesis import given, strategies, strategies as st
-from made_blocks import segment
-from made_files import exif, jpeg, xmp as packet_of
+from made_files import xmp as packet_of
 from studio import TOP, WithPictures, name_of, needs, put, read, run, tool, write
 
 import exifnorm_pictures
@@ -33,13 +32,12 @@ from exifnorm_pictures.cli.commands import nightly, report, same
 from exifnorm_pictures.cli.options import Files
 from exifnorm_pictures.comparison import wording
 from exifnorm_pictures.extract import exiftool, programs
-from exifnorm_pictures.extract.formats import jpeg as jpeg_
 from exifnorm_pictures.fields import listing, names as field_names, plain_texts, xmp_properties
 from exifnorm_pictures.fields.field import Field
 from exifnorm_pictures.files import session, signals
 from exifnorm_pictures.files.session import Session
 from exifnorm_pictures.judge import judge
-from exifnorm_pictures.model import found as found_, records, texts, verdicts, xmp_names as short_names
+from exifnorm_pictures.model import records, texts, verdicts, xmp_names as short_names
 from exifnorm_pictures.model.columns import Damaged
 from exifnorm_pictures.model.found import EXIF, NotRead
 from exifnorm_pictures.model.numbers import Numbers
@@ -722,17 +720,6 @@ class Extracted(WithPictures):
                 programs.run(["head", "-c", "101", "/dev/zero"], 10.0)
 
 
-class Parts(unittest.TestCase):
-    def test_what_was_not_read(self):
-        """Its digest is that of the field_names and of the bytes, in the order of the file; without the bytes there is none."""
-        parts = [NotRead("a trailer", "1" * 64), NotRead("a chunk", "2" * 64)]
-        others_ = [parts[::-1], parts[:1], [parts[0], NotRead("a chunk", "3" * 64)], [parts[0], NotRead("a trailer", "2" * 64)], []]
-        found = [PictureRecord.of(b"/a", b"/", unread=it).not_read for it in (parts, *others_)]
-        self.assertEqual((len(set(found)), found[-1]), (6, ""))
-        self.assertEqual(PictureRecord.of(b"/a", b"/", unread=parts).not_read, found[0])
-        self.assertIsNone(PictureRecord.of(b"/a", b"/", unread=(parts[0], NotRead("a chunk", ""))).not_read)
-
-
 class Ended(unittest.TestCase):
     def test_each_failure_has_its_line_and_status(self):
         for why, status, line in (
@@ -750,7 +737,7 @@ class Ended(unittest.TestCase):
                 self.assertEqual((main._run(["same", "c"]), lines), (status, [f"exifnorm-pictures: {line}"]))
 
 
-# ---- Single values: those of another type in a catalogue, byte offsets and folders at an end, and each byte that may be before a block.
+# ---- Single values: those of another type in a catalogue, and folders at an end.
 
 # The columns of each table that are read, and a value of another type in SQL for each type of a column, as SQLite keeps it there.
 COLUMNS = {"pictures": PICTURE_COLUMNS, "blocks": BLOCK_COLUMNS, "not_read": "what, digest"}
@@ -803,67 +790,6 @@ class RowsOfCatalogues(WithPictures):
         made = self.catalogue(*paths)
         for folder, expected in ((b"/", paths), (b"//", paths), (b"/a", [b"/a/b", b"/a/b/c"]), (b"/a/", [b"/a/b", b"/a/b/c"])):
             self.assertEqual([path for _, path, _ in made.below(folder)], expected, folder)
-
-
-class SingleBlocks(unittest.TestCase):
-    def test_extensions_of_packets(self):
-        """The first one of a name is read with its packet, which has the MD5 of its bytes; each further one in other bytes is reported."""
-        more, plain = packet_of("<dc:title>two</dc:title>"), packet_of("<dc:format>one</dc:format>")
-        name = hashlib.md5(more).hexdigest().upper()
-        asking = packet_of("<dc:format>one</dc:format>", f"note:HasExtendedXMP='{name}'")
-        read, damaged, missing = (
-            ("XMP", "accepted", None),
-            *(("XMP", "unreadable", it) for it in ("ExtensionDamaged", "ExtensionMissing")),
-        )
-        first, second = (f"{it}extended XMP" for it in ("", "second "))
-        for packet, pieces, expected in (
-            (asking, [more], [read]),
-            (asking, [more, more], [read]),
-            (asking, [more, b"other"], [read, (second, "unreadable", "ExtensionNotNamed")]),
-            (asking, [b"other", more], [damaged, (second, "unreadable", "ExtensionNotNamed")]),
-            (asking, [], [missing]),
-            (plain, [more], [read, (first, "unreadable", "ExtensionNotNamed")]),
-        ):
-            some = found_.Blocks()
-            some.add(found_.XMP, packet, "somewhere")
-            some.blocks += [found_.FoundBlock(found_.XMP, data, it, "somewhere", extends=name) for it, data in zip((first, second), pieces)]
-            judged = judge.judge_all(some)
-            self.assertEqual([(it.name, it.status, it.cause) for it in judged], expected)
-            used = pieces[0] if packet == asking and pieces else b""
-            self.assertEqual(judged[0].octets, hashlib.sha256(packet + used).hexdigest())
-
-    def test_several_extensions_of_a_packet(self):
-        """Their bytes count in the order of their names, so that each run finds the same digest."""
-        pieces = {hashlib.md5(it).hexdigest().upper(): it for it in (packet_of(f"<dc:title>{number}</dc:title>") for number in range(8))}
-        notes = "".join(f"<note:HasExtendedXMP>{it}</note:HasExtendedXMP>" for it in pieces)
-        packet = packet_of(notes)
-        some = found_.Blocks()
-        some.add(found_.XMP, packet, "somewhere")
-        some.blocks += [found_.FoundBlock(found_.XMP, data, "extended XMP", "somewhere", extends=it) for it, data in pieces.items()]
-        judged = judge.judge_all(some)
-        self.assertEqual([(it.status, it.cause) for it in judged], [("accepted", None)])
-        self.assertEqual(judged[0].octets, hashlib.sha256(packet + b"".join(pieces[it] for it in sorted(pieces))).hexdigest())
-
-    def test_bytes_around_the_word_exif(self):
-        """ExifTool reads a segment that begins with `.{0,4}Exif\\0`, where a dot is any byte, and takes the block from the second byte after it."""
-        one = exif(b"Abc")
-        octets = [bytes([it]) for it in range(256)]
-        for head in (*(it + b"Exif\0\0" for it in octets), *(b"Exif\0" + it for it in octets), *(it * 4 + b"eXIF\0" + it for it in octets)):
-            found = jpeg_.read(io.BytesIO(jpeg(segment(0xE1, head + one))))
-            self.assertEqual([(it.kind, it.name, it.data) for it in found.blocks], [("exif", "Exif", one)], head)
-            self.assertEqual(found.not_read, [], head)
-
-    def test_segments_that_begin_as_kodaks(self):
-        """Kodak's `Meta` is in APP3, by ExifTool's table of segments. What begins so in others is something else, and is named, too."""
-        for head in (b"Meta\0\0", b"META\0\0", b"Exif\0\0"):
-            data = head + b"abc"
-            for marker in [it for it in range(0xE0, 0xF0) if it not in (0xE1, 0xED)]:
-                found = jpeg_.read(io.BytesIO(jpeg(segment(marker, data))))
-                self.assertEqual(
-                    (found.blocks, found.not_read),
-                    ([], [NotRead("APP3 segment Meta" if marker == 0xE3 else mock.ANY, hashlib.sha256(data).hexdigest())]),
-                    marker,
-                )
 
 
 class LookedAtAgain(unittest.TestCase):

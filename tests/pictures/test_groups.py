@@ -245,34 +245,6 @@ def test_beside_a_table_the_status_2_has_a_reason(called, folder):
     assert called("same", "c", "--only", "creator", "--csv")[::2] == (2, f"exifnorm-pictures: note: {reason}\n")
 
 
-@pytest.mark.parametrize("kind", [[], ["--kind", "pixels"]], ids=["all", "pixels"])
-def test_groups_of_which_all_files_are_gone(called, folder, kind):
-    """As where a disk isn't mounted: no group may seem to be none at all."""
-    put(folder, {f"p/{name}.jpg": jpeg(app1(exif(b"abc" if name < "c" else b"c"))) for name in "abc"})
-    assert called("index", "p", "--catalogue", "c", "--quiet", "--pixels")[0] == 0
-    assert json.loads(called("same", "c", "--json", *kind)[1].splitlines()[-1])["absent_groups"] == 0
-    (folder / "p").rename(folder / "q")
-    words = "1 more is not listed, because its files are gone or have changed since they were indexed"
-    assert words in called("same", "c", *kind)[1].splitlines()
-    assert f"exifnorm-pictures: note: {words}\n" in called("same", "c", "--csv", *kind)[2]
-    assert json.loads(called("same", "c", "--json", *kind)[1])["absent_groups"] == 1
-    assert called("report", "c", "--html", "page")[0] == 0
-    assert "No two pictures have the same metadata" not in (folder / "page").read_text()
-
-
-def test_files_that_are_gone_or_have_changed(asked, folder):
-    put(folder, {f"p/{name}.jpg": FILES["a1"] for name in "abcd"})
-    indexed(asked, "p")
-    (folder / "p/a.jpg").unlink()
-    (folder / "p/b.jpg").write_bytes(FILES["b1"] + b"longer")
-    (group, _) = asked("same", "c")
-    assert (names_of(group["pictures"]), names_of(group["gone"]), names_of(group["changed"])) == (["c.jpg", "d.jpg"], ["a.jpg"], ["b.jpg"])
-    (group, _) = asked("same", "c", "--no-look")
-    assert group["count"] == 4 and group["gone"] == []
-    (folder / "p/c.jpg").unlink()
-    assert asked("same", "c")[:-1] == [], "one file is no group"
-
-
 # Canon's MakerNote is a directory whose offsets count from the header; 0009 is OwnerName
 
 
@@ -286,20 +258,6 @@ def with_note(owner, moved=0, wrong=False):
         block([make, entry(0x8769, LONG, 1, 38)]) + table([entry(0x927C, UNDEFINED, len(note), start)]) + b"Canon\0" + bytes(moved) + note
     )
     return jpeg(app1(octets))
-
-
-@needs("exiftool")
-def test_a_maker_note_that_only_moved(asked, folder):
-    """ExifTool reads the same; without it nothing is known, and so nothing is the same."""
-    for number, moved in enumerate((0, 64, 64)):
-        put(folder, {f"p{number}/a.jpg": with_short_note(moved)})
-    (found, _) = asked("changed", "p0", "p1", "--all", status=2)
-    assert found["result"] == "the same but for a MakerNote that moved"
-    (found, _) = asked("changed", "p0", "p1", "--all", "--no-programs", status=2)
-    assert found["result"] == "not wholly read"
-    indexed(asked, "p0", "p1", "p2")
-    *found, _ = asked("same", "c", status=2)
-    assert [(it["basis"], it["count"]) for it in found] == [("meaning", 2)]
 
 
 @needs("exiftool")
@@ -329,11 +287,3 @@ def test_a_file_system_that_is_mounted_at_another_place(asked, folder):
     assert asked("index", "other", "--catalogue", "c", "--quiet")[-1]["counts"] == {"unchanged": 2}
     (group, _) = asked("same", "c")
     assert sorted(os.path.relpath(it["path"], folder) for it in group["pictures"]) == ["other/a.jpg", "place/a.jpg"]
-
-
-def test_a_copy_of_a_disk_that_is_away_has_not_moved(asked, folder):
-    put(folder, {"disk/a.jpg": FILES["a1"]})
-    indexed(asked, "disk")
-    shutil.copytree(folder / "disk", folder / "copy")
-    (folder / "disk").rename(folder / "away")
-    assert asked("index", "copy", "--catalogue", "c", "--quiet")[-1]["counts"] == {"accepted": 1}

@@ -11,10 +11,9 @@ import struct
 import unicodedata
 
 import pytest
-from made_files import app1, app1_xmp, app13, jpeg, png, png_xmp, resource, xmp
+from made_files import app13, jpeg, png, png_xmp, resource, xmp
 from made_more_files import gif
-from studio import needs, put, sql_rows, tool
-from test_maker_notes import noted
+from studio import needs, put, tool
 from exifnorm_pictures.catalogue import asking
 from exifnorm_pictures.catalogue.asking import Answer
 from exifnorm_pictures.catalogue.kept_texts import kept_text
@@ -168,40 +167,7 @@ def test_questions(called, asked, seed, monkeypatch, indexed):
     assert [json.loads(it)["path"].rpartition("/")[2] for it in of_folder[:-1]] == listed
 
 
-def test_options_hold_together(asked, indexed):
-    indexed({"a.jpg": picture([("title", "A"), ("credit", "B")]), "b.jpg": picture([("title", "A")]), "c.jpg": picture([])})
-    assert asked("--with", "title", "--without", "credit")[0] == ["b.jpg"]
-    assert asked("--with", "Title", "--where", "credit = b")[0] == ["a.jpg"]
-    assert asked()[0] == ["a.jpg", "b.jpg", "c.jpg"]
-
-
 # Pictures that were not wholly read
-
-
-def test_what_was_not_read_is_counted_apart(called, asked, indexed):
-    """A picture that has lost a part may have had the text there: it is neither with it nor without it."""
-    whole = picture([("title", "A")], app1_xmp(xmp("<dc:source>x</dc:source>")))
-    indexed({"whole.jpg": whole, "cut.jpg": whole[:40], "none.jpg": picture([]), "text.txt": b"no picture"})
-    assert asked("--with", "title") == (["whole.jpg"], 2, {**asked("--with", "title")[2], "pictures": 3, "listed": 1, "not_known": 1})
-    listed, status, summary = asked("--without", "title")
-    assert (listed, status, summary["not_known"]) == (["none.jpg"], 2, 1)
-    assert "1 more may fit" in called("list", "c", "--without", "title")[1]
-
-
-def test_each_picture_fits_or_does_not_or_may(called, asked, indexed):
-    """A question and its opposite list each picture once, but for those of which it isn't known. Damage is known where texts aren't, and texts
-    where damage isn't."""
-    rng, whole = random.Random(1), picture([("title", "clay"), ("keywords", "7")])
-    broken = {"cut.jpg": whole[:-20], "lost.jpg": whole[:40], "refused.jpg": picture([], app1(b"II*\0\xff\xff\0\0")), "a.gif": gif()}
-    indexed({"whole.jpg": whole, **broken}, "--pixels")
-    for _ in range(40):
-        question = f"{text_of(drawn(rng))} {rng.choice(('and', 'or'))} {rng.choice(('with', 'without'))} damage"
-        (fit, status, last), (others, *opposite) = asked("--where", question), asked("--where", f"not ({question})")
-        assert len(fit) + len(others) + last["not_known"] == len({*fit, *others}) + last["not_known"] == 5, question
-        assert status == opposite[0] == 2 * bool(last["not_known"]) and opposite[1]["not_known"] == last["not_known"], question
-        counted = called("list", "c", "--count", "keywords", "--json", "--where", question)
-        counts = json.loads(counted[1].splitlines()[-1])  # of those that fit surely
-        assert (counted[0], counts["pictures"]) == (2 * bool(last["not_known"] or counts["not_known"]), len(fit)), question
 
 
 _PHOTOSHOP = "xmlns:photoshop='http://ns.adobe.com/photoshop/1.0/'"
@@ -249,38 +215,6 @@ def test_fields_of_each_standard(folder, called, asked):
     assert json.loads(called("list", "c", "--geojson", "--where", "title = none")[1]) == {"type": "FeatureCollection", "features": []}
 
 
-def test_structures_are_asked_for_by_their_plain_words(asked, indexed):
-    """Also in a list in which one member is a text."""
-    structure = "<rdf:li rdf:parseType='Resource'><dc:source>Attic</dc:source></rdf:li>"
-    packets = {
-        "a": f"<dc:relation><rdf:Seq>{structure}<rdf:li>vase</rdf:li></rdf:Seq></dc:relation>",
-        "b": "<dc:relation><rdf:Seq><rdf:li>vase</rdf:li></rdf:Seq></dc:relation>",
-        "c": f"<dc:relation><rdf:Bag>{structure}</rdf:Bag></dc:relation>",
-    }
-    indexed({f"{name}.jpg": jpeg(app1_xmp(xmp(packet))) for name, packet in packets.items()})
-    assert asked("--where", "XMP-dc:relation has attic")[0] == ["a.jpg", "c.jpg"]
-    assert asked("--where", "XMP-dc:relation has vase")[0] == ["a.jpg", "b.jpg"]
-    assert asked("--where", "XMP-dc:relation = vase")[0] == ["b.jpg"]
-
-
-@needs("exiftool")
-def test_owners_in_maker_notes(called, asked, indexed):
-    """A MakerNote may have a serial number or an owner: where ExifTool wasn't asked, that isn't known."""
-    indexed({"canon.jpg": noted(b"Annette"), "plain.jpg": picture([])})
-    assert asked("--without", "owner")[:2] == (["plain.jpg"], 2) and asked("--with", "owner")[2]["not_known"] == 1
-    for words in (["--with", "owner"], ["--count", "owner"]):  # which says why, and nothing that isn't so
-        said = called("list", "c", *words)[1]
-        assert "--maker-notes" in said and "wholly" not in said, said
-    assert asked("--without", "creator")[1] == 0
-    called("index", "p", "--catalogue", "c", "--quiet", "--again", "--maker-notes")
-    assert asked("--where", "owner = annette")[:2] == (["canon.jpg"], 0)
-    assert asked("--without", "owner")[:2] == (["plain.jpg"], 0)
-    indexed({"refused.jpg": jpeg(app1(b"II*\0\xff\xff\0\0"))}, "--maker-notes")
-    for words in (["--with", "owner"], ["--count", "owner"]):
-        said = called("list", "c", *words)[1]
-        assert "wholly" in said and "MakerNote" not in said, said
-
-
 # Counts
 
 
@@ -297,83 +231,6 @@ def test_counts_of_a_label(called, indexed):
     ]
     assert (last["pictures"], last["with"], last["not_known"]) == (8, 7, 0)
     assert called("list", "c", "--count", "creator", "--where", "creator like otto*")[1].count("\n") == 3
-
-
-def test_spellings_of_long_texts(folder, called):
-    """Short and long texts are apart in a catalogue: a spelling may be one of either."""
-    long = "The harbour of Riverside, by K.L."  # 33 characters, and 41 with more spaces between the signs
-    texts = [long, long.upper(), long.replace(" ", " - "), "Vase", "vase", "Bowl", "x" * 39, "x" * 40]
-    put(folder / "p", {f"{number}.jpg": picture([("title", text)]) for number, text in enumerate(texts)})
-    *rows, last = map(json.loads, called("list", "p", "--count", "title", "--json")[1].splitlines())
-    assert [(it["text"], it["like"]) for it in rows] == [
-        (long.upper(), None),
-        (long.replace(" ", " - "), long.upper()),
-        (long, long.upper()),
-        ("Vase", None),
-        ("vase", "Vase"),
-        ("Bowl", None),
-        ("x" * 39, None),
-        ("x" * 40, None),
-    ]
-    assert all(it["pictures"] == 1 for it in rows) and last["with"] == len(texts)
-
-
-@pytest.mark.parametrize("seed", range(3))
-def test_counts_add_up(seed, folder, called, indexed):
-    """By how the pictures were made: long and short keywords, none, a refused block, and a file that is no picture."""
-    rng = random.Random(seed)
-    words = ["clay", "x" * 60, "y" * 60, "Clay", "7"]
-    known = {f"{number:02}.jpg": rng.sample(words, rng.randrange(4)) for number in range(20)}
-    put(folder / "p", {name: picture([("keywords", word) for word in of_picture]) for name, of_picture in known.items()})
-    refused = jpeg(app1(b"II*\0\xff\xff\0\0"))
-    indexed({"r.jpg": refused, **({"d.txt": b"text"} if seed else {})})
-    status, printed, _ = called("list", "c", "--count", "keywords", "--json")
-    *texts, last = map(json.loads, printed.splitlines())
-    counts = {word: sum(word in of_picture for of_picture in known.values()) for word in words}
-    assert {it["text"]: it["pictures"] for it in texts} == {word: count for word, count in counts.items() if count}
-    assert (status, last["pictures"], last["with"], last["not_known"]) == (2, 21, sum(map(bool, known.values())), 1)
-
-
-# Forms
-
-
-@pytest.mark.parametrize("at_once", [1, 2, 3, 1000])
-@pytest.mark.parametrize("question", [[], ["--with", "title"], ["--without", "title"]], ids=" ".join)
-def test_each_picture_has_its_own_texts(at_once, question, called, monkeypatch, indexed):
-    """However many are asked for at once: also pictures without a text, and a long text before a short one."""
-    long = "clay from the banks of the river, dug by hand"
-    keywords = {"a": [], "b": [long, "x"], "c": ["x", long], "d": [], "e": ["y"], "f": [long], "g": []}
-    titles = {"a": ["A"], "b": [], "c": ["C"], "d": [], "e": ["E"], "f": ["F"], "g": []}
-    words = {name: [*(("title", it) for it in titles[name]), *(("keywords", it) for it in keywords[name])] for name in keywords}
-    indexed({f"{name}.jpg": picture(words[name]) for name in words})
-    monkeypatch.setattr(asking, "_AT_ONCE", at_once)
-    printed = called("list", "c", "--json", "--columns", "keywords,title", *question)[1]
-    fitting = [name for name in words if not question or bool(titles[name]) == (question[0] == "--with")]
-    texts = [json.loads(line)["texts"] for line in printed.splitlines()[:-1]]
-    assert texts == [{"keywords": keywords[name], "title": titles[name]} for name in fitting]
-
-
-# Since
-
-
-def test_since(folder, called, asked, monkeypatch, indexed):
-    indexed({"a.jpg": picture([("title", "A")])})
-    assert asked("--since", "1971-01-01")[0] == ["a.jpg"]
-    assert asked("--since", "2200-01-01")[0] == []
-    # a run that reads all again finds nothing new, be it by one process or by several
-    indexed({f"{number}.jpg": picture([("title", f"{number}")]) for number in range(70)})
-    sql_rows("c", "UPDATE runs SET started = '2020-01-01T00:00:00Z'")
-    for jobs, changed in (("1", "1.jpg"), ("2", "2.jpg")):
-        (folder / "p" / changed).write_bytes(picture([("title", "changed")]))
-        called("index", "p", "--catalogue", "c", "--quiet", "--again", "--jobs", jobs)
-        assert asked("--since", "2021-01-01")[0] == [f"{number}.jpg" for number in range(1, int(jobs) + 1)], jobs
-    assert "older one" in called("list", "c", "--since", "1971-01-01")[1]
-    counts = called("list", "c", "--count", "title", "--since", "2021-01-01")[1].splitlines()[-1]
-    assert "2 pictures with" in counts and "2021-01-01" in counts
-    assert "since" not in called("list", "c", "--count", "title")[1].splitlines()[-1]
-    for words in (("changed", "2026-11-20", "c"), ("report", "c", "--since", "2026-11-20", "--html", "page")):
-        status, _, messages = called(*words)
-        assert status == 4 and "list CATALOGUE --since 2026-11-20" in messages
 
 
 # Wrong questions
@@ -405,15 +262,6 @@ def test_wrong_questions_are_explained(called, words, marked, indexed):
     indexed({"a.jpg": picture([])})
     status, printed, messages = called("list", "c", *words)
     assert (status, printed) == (3, "") and marked in messages and "Traceback" not in messages
-
-
-def test_a_star_in_quotes_is_a_character(asked, indexed):
-    indexed({"a.jpg": picture([("title", "10*")]), "b.jpg": picture([("title", "100")])})
-    assert [asked("--where", it)[0] for it in ("title = '10*'", "title has '*'", "title like 10*")] == [
-        ["a.jpg"],
-        ["a.jpg"],
-        ["a.jpg", "b.jpg"],
-    ]
 
 
 def test_the_place_of_a_mistake_is_marked(called, indexed):

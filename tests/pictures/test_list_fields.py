@@ -6,10 +6,9 @@ import struct
 import subprocess
 
 import pytest
-from made_blocks import ASCII, BLOCKS, LONG, MAKE, MODEL, block, entry, table, with_exif
+from made_blocks import ASCII, LONG, MAKE, MODEL, block, entry, table, with_exif
 from made_files import app1, app1_xmp, app13, iim, jpeg, resource, small_tiff, xmp
 from studio import SMALL_JPEG, needs, put, tool
-from test_maker_notes import noted
 
 VALUES = {
     "FNumber": ("2.8", "8", "11"),
@@ -78,26 +77,6 @@ def test_angles_and_times_of_gps(folder, called, asked):
 
 
 RATIONAL = 5
-LETTERS = (
-    b"W",
-    b"w",
-    b"West",
-    b"WEST",
-    b"W ",
-    b"W\0\0",
-    b"E",
-    b"east",
-    b"S",
-    b"South",
-    b"s",
-    b"Sw",
-    b"North",
-    b"n",
-    b"x",
-    b" W",
-    b"-",
-    b"",
-)
 
 
 def angle(*numbers):
@@ -109,21 +88,6 @@ def located(tags, letter):
     latitude, longitude = angle(7, 30, 0), angle(8, 15, 0)
     values = ((ASCII, letter + b"\0"), (RATIONAL, latitude), (ASCII, letter + b"\0"), (RATIONAL, longitude))
     return jpeg(app1(small_tiff((0x8825, LONG, [(tag, *value) for tag, value in zip(tags, values)]), order=">")), base=SMALL_JPEG)
-
-
-@needs("exiftool")
-@pytest.mark.parametrize("tags, names", [((1, 2, 3, 4), GPS[:2]), ((19, 20, 21, 22), GPS[2:4])])
-def test_letters_of_directions(tags, names, folder, asked, indexed):
-    """Also small ones, and words: the sign is that of ExifTool."""
-    indexed({f"{number}.jpg": located(tags, letter) for number, letter in enumerate(LETTERS)})
-    words = ["exiftool", "-config", "", "-j", "-n", *(f"-{name}" for name in names), "p"]
-    expected = {
-        it["SourceFile"].rpartition("/")[2]: [it[name] for name in names]
-        for it in json.loads(subprocess.run(words, cwd=folder, capture_output=True, check=True).stdout)
-    }
-    found, _, _ = asked("--columns", ",".join(names))
-    assert {picture: [float(texts[name][0]) for name in names] for picture, texts in found.items()} == expected
-    assert len({tuple(it) for it in expected.values()}) == 3
 
 
 def with_gps(*fields):
@@ -162,31 +126,6 @@ def test_angles_that_make_no_position(picture, is_unclear, folder, called, index
             (folder / "rules").write_text(rule + "\n")
             ended, printed, _ = called("check", "--rules", "rules", source)
             assert ended == status and ("no position" in printed) == (ended == 2 or (rule != "position never" and ended == 1)), printed
-
-
-@needs("exiftool")
-def test_a_position_has_the_signs_of_exiftool(folder, called):
-    """It has none if a letter is no direction of its angle."""
-    put(
-        folder / "p",
-        {
-            f"{number}.jpg": jpeg(app1(small_tiff((0x8825, LONG, fields), order=">")), base=SMALL_JPEG)
-            for number, fields in enumerate(
-                [(1, ASCII, north + b"\0"), (2, RATIONAL, angle(7, 30, 0)), (3, ASCII, east + b"\0"), (4, RATIONAL, angle(8, 15, 0))]
-                for north in (b"N", b"s", b"South", b"north")
-                for east in (b"E", b"w", b"West\0\0", b"east")
-            )
-        },
-    )
-    words = ["exiftool", "-config", "", "-j", "-n", "-GPSLatitude", "-GPSLongitude", "p"]
-    expected = {
-        it["SourceFile"].rpartition("/")[2]: {"latitude": it["GPSLatitude"], "longitude": it["GPSLongitude"]}
-        for it in json.loads(subprocess.run(words, cwd=folder, capture_output=True, check=True).stdout)
-    }
-    objects = [json.loads(line) for line in called("show", "--captions", "p", "--json")[1].splitlines()]
-    assert {it["path"].rpartition("/")[2]: it["position"] for it in objects if "position" in it} == expected
-    put(folder, {"S.jpg": located((1, 2, 3, 4), b"S"), "x.jpg": located((1, 2, 3, 4), b"x")})
-    assert [json.loads(called("show", "--captions", name, "--json")[1])["position"] for name in ("S.jpg", "x.jpg")] == [None, None]
 
 
 @needs("exiftool")
@@ -258,46 +197,6 @@ def test_questions(drawn, asked):
     assert set(asked("--where", "Rating > 3 and without ISO")[0]) == both
     assert set(asked("--where", "XMP:Rating > 3 and not with ExifIFD:ISO")[0]) == both
     assert set(asked("--where", "IFD0:Model has 'ZU\u0308RICH'")[0]) == having(lambda it: "Zürich" in str(it.get("Model")))
-
-
-@needs("exiftool")
-def test_counts(drawn, called):
-    _, printed, _ = called("list", "c", "--count", "Rating", "--json")
-    *texts, summary = map(json.loads, printed.splitlines())
-    ratings = [values["Rating"] for values in drawn.values() if "Rating" in values]
-    assert {it["text"]: it["pictures"] for it in texts} == {str(it): ratings.count(it) for it in set(ratings)}
-    assert (summary["pictures"], summary["with"]) == (12, len(ratings))
-
-
-@needs("exiftool")
-def test_what_is_kept(drawn, called, folder):
-    """Fields aren't kept in the catalogue, and a label that has the same name means the label."""
-    called("list", "c", "--without", "credit")
-    before = (folder / "c").read_bytes()
-    assert (
-        called("list", "c", "--with", "Artist")[1].count(".jpg") == 12 and called("list", "c", "--with", "creator")[1].count(".jpg") == 12
-    )
-    assert (folder / "c").read_bytes() == before
-    assert called("list", "p", "--with", "Artist")[1].count(".jpg") == 12
-    assert called("list", "c", "--with", "Copyright")[1].count(".jpg") == 0
-
-
-def test_what_is_not_known(asked, indexed):
-    """A picture with a block that can't be read may have the field; a MakerNote may have a serial number."""
-    indexed({"a.jpg": noted(b"Abc"), "b.jpg": jpeg(app1(b"II*\0\xff\xff\0\0")), "c.jpg": jpeg(app1(BLOCKS["Unsorted"]))})
-    found, status, last = asked("--without", "Rating")
-    assert (set(found), status, last["not_known"]) == ({"a.jpg", "c.jpg"}, 2, 1)
-    found, status, last = asked("--with", "SerialNumber")
-    assert (found, status, last["not_known"]) == ({}, 2, 2)
-
-
-@pytest.mark.parametrize(
-    "words, near", [(("--with", "FNumbr"), "FNumber"), (("--where", "IFD0:Modell = x"), "Model"), (("--columns", "titel"), "title")]
-)
-def test_a_name_of_no_field(words, near, called, indexed):
-    indexed({"a.jpg": SMALL_JPEG})
-    status, printed, messages = called("list", "c", *words)
-    assert (status, printed) == (3, "") and near in messages
 
 
 @pytest.mark.parametrize(

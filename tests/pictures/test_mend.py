@@ -3,12 +3,11 @@
 import io
 import json
 import os
-import shutil
 
 import pytest
 from made_blocks import BLOCKS, segment, with_exif
-from made_files import app1, app13, app1_xmp, exif, jpeg, page, tiff, xmp
-from studio import SMALL_JPEG, collection, interpreter_with, needs, put, tool
+from made_files import app1, app13, exif, jpeg
+from studio import SMALL_JPEG, needs, put
 from test_parts import JUMBF, PATH, parts_of
 from test_repairs import REFUSED
 
@@ -88,13 +87,6 @@ def test_too_long_to_be_mended(called, folder, holes):
     assert status == 2 and '"problem": "TooMuch"' in printed and not (folder / "b.jpg").exists()
 
 
-def test_a_kind_that_is_not_repaired_is_not_searched(called, folder, without_programs, monkeypatch):
-    monkeypatch.setattr(mend, "_places", lambda *_: pytest.fail("searched"))
-    (folder / "a.tif").write_bytes(tiff(page((0x010F, 2, b"Maker\0"), (0x010F, 2, b"Maker\0"))))
-    status, printed, _ = called("mend", "a.tif", "b.tif", "--json")
-    assert status == 2 and "NeedsExifTool" in printed
-
-
 @pytest.mark.parametrize("second", [BAD, b"no picture", GOOD[: len(GOOD) // 2]], ids=["refused", "no picture", "cut"])
 def test_a_picture_that_is_exchanged_meanwhile(called, folder, without_programs, monkeypatch, second):
     """What it was exchanged for was judged by nobody, so that there is no copy."""
@@ -140,16 +132,6 @@ def test_a_new_folder_of_copies(called, folder, without_programs, out, status):
     assert (folder / "new").exists() == (status == 0) and (folder / "file").read_bytes() == b"" and not (folder / "nowhere").exists()
 
 
-def test_no_folder_is_made_for_no_copies(called, folder, without_programs, indexed):
-    indexed({"a.jpg": GOOD})
-    assert called("mend", "c", "new")[:2] == (0, "0 pictures\n") and not (folder / "new").exists()
-
-
-def test_a_refused_picture_without_a_remedy_is_not_copied(called, folder, without_programs):
-    (folder / "a.jpg").write_bytes(with_exif(SMALL_JPEG, BLOCKS["Doubled"]))
-    assert called("mend", "a.jpg", "b.jpg")[0] == 2 and not (folder / "b.jpg").exists()
-
-
 # ---- `mend` of many pictures, by a list or by a catalogue: the copies, and the counts at the end.
 
 PICTURES = {
@@ -193,35 +175,6 @@ def test_those_of_a_catalogue(archive, called_lines):
     assert all((archive / "p" / name).read_bytes() == octets for name, octets in PICTURES.items())
 
 
-@needs("exiftool")
-def test_only_without_loss(archive, called_lines):
-    """The counts tell what would be lost from what can't be mended, and no copy has a loss."""
-    called_lines("index", "p", "--catalogue", "c", "--quiet")
-    status, lines, _ = called_lines("mend", "c", "--lossless", "out", "--json")
-    *pictures, last = map(json.loads, lines)
-    assert status == 2 and last["counts"] == {"lossless": 2, "lossy": 0, "plain": 0, "not mended": 2}
-    assert copies(archive / "out") == ["one/shared.jpg", "one/unsorted.jpg"]
-    written = {os.path.basename(it["path"]): (it["written"], bool(it["lost"])) for it in pictures}
-    assert written == {"unsorted.jpg": (True, False), "shared.jpg": (True, False), "lossy.jpg": (False, True), "none.jpg": (False, False)}
-
-
-@needs("exiftool")
-def test_those_of_a_list(archive, called_lines):
-    (archive / "list").write_text("p/one/unsorted.jpg\np/two/lossy.jpg\np/two/accepted.jpg\np/absent.jpg\n")
-    status, lines, _ = called_lines("mend", "--files-from", "list", "out")
-    assert status == 2
-    assert lines[-1] == "4 pictures: 1 mended without loss, 1 with values lost or changed, 1 copied as they are, 1 not mended"
-    assert copies(archive / "out") == ["p/one/unsorted.jpg", "p/two/accepted.jpg", "p/two/lossy.jpg"]
-
-
-@needs("exiftool")
-def test_a_list_chooses_of_a_catalogue(archive, called_lines):
-    (archive / "list").write_text("p/one/unsorted.jpg\np/two/accepted.jpg\n")
-    called_lines("index", "p", "--catalogue", "c", "--quiet")
-    status, lines, _ = called_lines("mend", "c", "--files-from", "list", "out")
-    assert status == 0 and lines[-1] == "1 picture: 1 mended without loss"
-
-
 def test_one_folder_is_given(archive, called):
     called("index", "p", "--catalogue", "c", "--quiet")
     for words in ((), ("out", "out")):
@@ -245,17 +198,6 @@ def test_explain_recommends_what_helps(archive, called_lines):
             os.remove(archive / "out" / "copy.jpg")
 
 
-@needs("exiftool", "piexif")
-def test_what_piexif_writes_is_repaired(folder, called):
-    """A program that many scripts use, and whose blocks are refused."""
-    shutil.copy(os.path.join(collection(), "picture.jpg"), folder / "a.jpg")
-    call = "import piexif; piexif.insert(piexif.dump(piexif.load('a.jpg')), 'a.jpg', 'b.jpg')"
-    tool(folder, interpreter_with("piexif"), "-c", call)
-    assert [called("explain", name)[0] for name in ("a.jpg", "b.jpg")] == [0, 2]
-    status, printed, _ = called("mend", "b.jpg", "c.jpg", "--json")
-    assert (status, json.loads(printed)["step"], called("explain", "c.jpg")[0]) == (0, "repair", 0)
-
-
 # ---- `mend` keeps each part of a file that is no metadata, byte for byte, or says that it is lost.
 
 LOST_PARTS = b"MM\0*\0\0\0\x08\0\x20" + bytes.fromhex("010f 0002 00000004 41626300 0112 0003 00000001 00060000 0128 0003 00000001 00020000")
@@ -277,31 +219,3 @@ def test_mend_keeps_each_other_part(name, folder, called):
     rests = [streams.digests(io.BytesIO(it), parts_of(it)) for it in (BEHIND[name], (folder / "b.jpg").read_bytes())]
     assert (status, json.loads(printed)["step"]) == (0, "repair") and rests[0] == rests[1]
     assert called("show", "b.jpg")[1].count("Make") == 1
-
-
-@needs("exiftool")
-def test_mend_names_what_a_remedy_leaves_out(folder, called, monkeypatch):
-    put(folder, {"a.jpg": BEHIND["unknown segments"]})
-    monkeypatch.setattr(mend, "_repaired", lambda *_: None)
-    monkeypatch.setattr(mend, "_REMEDIES", {mend.Remedy.REBUILD: mend._rebuild})
-    status, printed, _ = called("mend", "a.jpg", "b.jpg", "--lossless", "--json")
-    assert status == 2 and {"APP4 segment OURS: removed", "APP5 segment Museum: removed"} <= set(json.loads(printed)["lost"])
-    assert not (folder / "b.jpg").exists()
-
-
-@needs("exiftool")
-def test_mend_names_what_another_block_loses(folder, called, monkeypatch):
-    """A packet whose unknown property a program leaves out; the name of the program that writes a packet is none."""
-    put(
-        folder,
-        {
-            "a.jpg": jpeg(
-                app1(LOST_PARTS), app1_xmp(xmp("<dc:source>b</dc:source>", "xmlns:museum='http://example.com/museum/' museum:Room='7'"))
-            )
-        },
-    )
-    put(folder, {"c.jpg": jpeg(app1(LOST_PARTS), app1_xmp(xmp("<dc:source>b</dc:source>")))})
-    monkeypatch.setattr(mend, "_repaired", lambda *_: None)
-    monkeypatch.setattr(mend, "_REMEDIES", {mend.Remedy.REBUILD: mend._rebuild})
-    lost = [json.loads(called("mend", it, "b.jpg", "--lossless", "--json")[1])["lost"] for it in ("a.jpg", "c.jpg")]
-    assert "XMP: changed" in lost[0] and not any("XMP" in it for it in lost[1]), lost

@@ -4,17 +4,15 @@ these alone don't show it: a scan that was deleted would seem to be there."""
 import collections
 import json
 import os
-import re
 import shutil
 
 import pytest
 from hypothesis import given, strategies as st
 from made_blocks import ASCII, block, entry
-from made_files import app1, exif, jpeg
+from made_files import app1, jpeg
 from made_museum import captioned, put as put_dated
 from made_raw import cr2
 from studio import SMALL_JPEG, put
-from test_list import picture
 
 from exifnorm_pictures.comparison.changed.pairs import File, partners
 
@@ -64,95 +62,11 @@ def test_what_became_of_a_picture_that_is_gone(name, pixels, called, folder):
         assert (result, place) == (answers[pixels], "new/b.jpg" if result == MOVED else None), catalogues
 
 
-# ---- `index`: a folder that moved is one line, and not one for each of its pictures.
-
-FOLDER_FILES = {f"{name}.jpg": jpeg(app1(exif(name.encode() * 3))) for name in ("a", "b", "c")}
-
-
-@pytest.fixture
-def folder_archive(folder, called):
-    put(folder / "p" / "monday", FOLDER_FILES)
-    put(folder / "p" / "monday" / "raw", {"d.jpg": jpeg(app1(exif(b"ddd")))})
-    called("index", "p", "--catalogue", "c", "--quiet")
-    return folder / "p"
-
-
-def moves(printed):
-    return [it for it in printed.splitlines() if ": Moved: " in it]
-
-
-def test_single_pictures_have_their_names(folder_archive, called):
-    """Also where two go to two places, or get another name."""
-    (folder_archive / "x").mkdir()
-    (folder_archive / "monday/a.jpg").rename(folder_archive / "x/a.jpg")
-    (folder_archive / "monday/b.jpg").rename(folder_archive / "b.jpg")
-    (folder_archive / "monday/c.jpg").rename(folder_archive / "monday/new.jpg")
-    found = moves(called("index", "p", "--catalogue", "c")[1])
-    assert {it.partition(": Moved: to ")[::2] for it in found} == {
-        ("p/monday/a.jpg", "p/x/a.jpg"),
-        ("p/monday/b.jpg", "p/b.jpg"),
-        ("p/monday/c.jpg", "p/monday/new.jpg"),
-    }
-
-
-def test_a_folder_and_a_picture(folder_archive, called):
-    (folder_archive / "monday/a.jpg").rename(folder_archive / "first.jpg")
-    (folder_archive / "monday").rename(folder_archive / "tuesday")
-    assert sorted(moves(called("index", "p", "--catalogue", "c")[1])) == [
-        "p/monday/a.jpg: Moved: to p/first.jpg",
-        "p/monday: Moved: 3 pictures to p/tuesday",
-    ]
-
-
-@pytest.mark.parametrize("form, least", [("--quiet", 0), ("--json", 4)])
-def test_a_folder_has_no_line_without_lines_for_people(form, least, folder_archive, called):
-    """With --json each of its pictures has an object."""
-    (folder_archive / "monday").rename(folder_archive / "tuesday")
-    printed = called("index", "p", "--catalogue", "c", form)[1]
-    assert not moves(printed) and printed.count('"problem": "Moved"') == least
-
-
-def test_a_folder_that_moved_into_another_one(folder_archive, called):
-    """The folder above it has stayed, and isn't named."""
-    put(folder_archive / "wednesday", {"e.jpg": jpeg(app1(exif(b"eee")))})
-    called("index", "p", "--catalogue", "c", "--quiet")
-    shutil.copy("c", "before")
-    (folder_archive / "year").mkdir()
-    (folder_archive / "monday").rename(folder_archive / "year/monday")
-    assert moves(called("index", "p", "--catalogue", "c")[1]) == ["p/monday: Moved: 4 pictures to p/year/monday"]
-    shutil.copy("before", "c")
-    printed = called("nightly", "p", "--catalogue", "c")[1]
-    assert "4 moved with their folder: monday to year/monday\n" in printed, printed
-    called("report", "c", "--since", "before", "--html", "page.html")
-    texts = re.sub(r"<[^>]*>", " ", (folder_archive.parent / "page.html").read_text(encoding="utf-8"))
-    assert "monday to year/monday" in " ".join(texts.split())
-    status, printed, _ = called("changed", "before", "c")
-    assert status == 1 and "4 moved: monday to year/monday (4 pictures)\n" in printed and "1 same" in printed, printed
-
-
-def test_the_summary_of_changed_names_folders_and_the_other_pictures(folder_archive, called):
-    """A picture that went elsewhere has its own name; one that was edited, too, is no picture that only moved."""
-    shutil.copytree(folder_archive, folder_archive.parent / "q")
-    (folder_archive.parent / "q/monday/a.jpg").rename(folder_archive.parent / "q/first.jpg")
-    (folder_archive.parent / "q/monday").rename(folder_archive.parent / "q/tuesday")
-    printed = called("changed", "p", "q")[1]
-    assert "4 moved: monday to tuesday (3 pictures), monday/a.jpg to first.jpg\n" in printed, printed
-    assert "raw/d.jpg" not in printed and len(called("changed", "p", "q", "--each")[1].splitlines()) > 4
-
-
-def test_all_pictures_into_a_folder(folder_archive, called):
-    """The folder that was looked at has no name below itself."""
-    shutil.copytree(folder_archive / "monday", folder_archive.parent / "q")
-    printed = called("changed", "q", "p")[1]
-    assert "4 moved: . to monday (4 pictures)\n" in printed, printed
-
-
 # ---- Files that have other names than before, of which other files have the old ones: nobody edited them.
 
 SCAN_NAMES = ("a.jpg", "b.jpg", "c.jpg", "d.jpg")
 SERIES = {"a.jpg": "b.jpg", "b.jpg": "c.jpg", "c.jpg": "d.jpg"}
 MOVES = {"a series": SERIES, "two swapped": {"a.jpg": "b.jpg", "b.jpg": "a.jpg"}, "a ring": {**SERIES, "d.jpg": "a.jpg"}}
-OTHER_PICTURE = SMALL_JPEG.replace(b"\xff\xdb\0\x43\0", b"\xff\xdb\0\x43\1", 1)  # another picture
 
 
 def scan(number, caption):
@@ -220,15 +134,6 @@ def test_where_inodes_say_nothing(pixels, folder, called):
     status, printed, _ = called("changed", "first", "in", "--json", *pixels)
     records = [it for it in map(json.loads, printed.splitlines()) if it["record"] == "picture"]
     assert {(it["result"], it["note"].partition(":")[0]) for it in records} == {("renumbered", "probably")}
-
-
-def test_an_edit_among_them_is_seen(folder, called):
-    scans(folder, 3)
-    called("index", "in", "--catalogue", "first", "--quiet", "--pixels")
-    move_all(folder, SERIES)
-    (folder / "in" / "c.jpg").write_bytes(scan(1, "EDI"))
-    found = results(called("changed", "first", "in", "--json", "--pixels")[1])
-    assert found == {"a.jpg": ("renumbered", "b.jpg"), "b.jpg": ("moved and edited", "c.jpg"), "c.jpg": ("renumbered", "d.jpg")}
 
 
 def kept_as_it_was(folder):
@@ -313,46 +218,3 @@ def test_partners_of_names(before, after):
     taken = {it.name.decode() for it in (*in_pairs, *found.unclear[0], *found.unclear[1])}
     alone = [{stem(it) for it in names if it not in taken} for names in left]
     assert not alone[0] & alone[1]  # who has no partner could have none
-
-
-def test_a_master_and_its_copies(folder, called):
-    """What the copies for the web have lost; pictures without a partner aren't compared, and one of several is named."""
-    words = {it: picture([("credit", it or "Agency")]) for it in ("Museum", "")}
-    put(folder / "masters", {"1.jpg": words["Museum"], "2.jpeg": words["Museum"], "3.jpg": words["Museum"], "4.jpg": words["Museum"]})
-    put(folder / "web", {"small/1.jpeg": words["Museum"], "2.jpg": words[""], "4.jpeg": words[""], "4.JPG": words[""]})
-    status, lines, _ = called("changed", "masters", "web", "--match", "stem", "--json", "--only", "credit", "--all")
-    *objects, summary = map(json.loads, lines.splitlines())
-    found = {it["path"]: (it["result"], (it["partner"] or {}).get("path")) for it in objects if it["record"] == "picture"}
-    assert found == {
-        "1.jpg": ("same", "small/1.jpeg"),
-        "2.jpeg": ("different", "2.jpg"),
-        "3.jpg": ("missing after", None),
-        "4.jpg": ("not clear which is its partner", None),
-        "4.jpeg": ("not clear which is its partner", None),
-        "4.JPG": ("not clear which is its partner", None),
-    }
-    assert status == 2
-    first = called("changed", "masters", "web", "--match", "stem")[1].splitlines()[0]
-    assert first == "2 pairs by name: 1 changed. Without a partner: 1 only before."
-    shutil.rmtree(folder / "web")
-    put(folder / "web", {"9.jpg": words[""]})
-    first = called("changed", "masters", "web", "--match", "stem")[1].splitlines()[0]
-    assert first == "No pair by name. Without a partner: 4 only before, 1 only after."
-
-
-@pytest.mark.parametrize("name", MOVES)
-def test_names_that_other_pictures_have_got(name, folder, called):
-    """With --match stem a name is all that counts: a picture under the name of another one is compared with that, and none has moved."""
-    moves = MOVES[name]
-    scans(folder, len(moves))
-    shutil.copytree("in", "first")
-    move_all(folder, moves)
-    status, lines, _ = called("changed", "first", "in", "--match", "stem", "--json")
-    *objects, summary = map(json.loads, lines.splitlines())
-    found = {it["path"]: (it["result"], it["moved_to"], it["partner"]) for it in objects if it["record"] == "picture"}
-    both = moves.keys() & set(moves.values())
-    due = {it: "different" for it in both}
-    due.update({it: "missing after" for it in moves.keys() - both})
-    due.update({it: "missing before" for it in set(moves.values()) - both})
-    assert found == {it: (result, None, None) for it, result in due.items()}
-    assert status == 1 and sum(summary["counts"].values()) == len(due)

@@ -15,7 +15,6 @@ from contextlib import closing
 
 import pytest
 import test_cr3
-from made_blocks import BLOCKS
 from made_boxes import cr3
 from made_files import app1, app13, app1_xmp, exif, jpeg, resource, xmp
 from studio import SMALL_JPEG, TOP, Studio, needs, put, read
@@ -27,8 +26,6 @@ from exifnorm_pictures.cli.commands import nightly
 from exifnorm_pictures.cli.commands.nightly import letter as letter_of
 from exifnorm_pictures.comparison.nightly import news as news_
 from exifnorm_pictures.comparison.nightly.news import Kind, News
-from exifnorm_pictures.extract import programs
-from exifnorm_pictures.scan import looking
 from exifnorm_pictures.report import book
 
 # A raw file whose directory is cut, from which exiv2 extracts nothing
@@ -176,19 +173,6 @@ def test_what_is_new(seed, archive, night):
         )
 
 
-def test_a_rule_that_is_new_is_no_news(archive, night, folder):
-    """Nor is one that was broken before; both are counted in the next letter."""
-    (folder / "rules").write_text("every picture needs credit\n")
-    night("--rules", "rules")
-    (folder / "rules").write_text("every picture needs creator\n")
-    assert night("--rules", "rules")[0] == 0
-    put(archive, {"web/0.jpg": picture(8, title="other", credit="Museum")})
-    aged(archive)
-    status, news, summary = night("--rules", "rules")
-    assert (status, news) == (1, {("text changed", "title"): 1})
-    assert (summary["broken_pictures"], summary["broken_pictures_before"]) == (12, 12)
-
-
 def test_what_may_break_a_rule_is_told_once(archive, night, folder):
     """A picture with a refused block: on the night on which it comes, and not when it moves."""
     (folder / "rules").write_text("every picture needs caption\n")
@@ -218,15 +202,6 @@ def test_a_damaged_picture(archive, night):
 # Disks
 
 
-def test_the_only_picture_of_a_folder(archive, night):
-    """An empty folder on the device of its pictures is no disk that isn't mounted."""
-    put(archive, {"object/one.jpg": picture(90)})
-    night()
-    os.remove(archive / "object" / "one.jpg")
-    assert night()[:2] == (1, {("gone", None): 1})
-    assert night()[0] == 0
-
-
 @pytest.mark.parametrize("is_empty", [True, False])
 @pytest.mark.parametrize("name", ["", "web", "scans", "scans/old"])
 def test_a_disk_that_is_not_mounted(name, is_empty, archive, night, folder, monkeypatch):
@@ -254,25 +229,6 @@ def test_a_disk_that_is_not_mounted(name, is_empty, archive, night, folder, monk
     assert night()[:2] == (1, {("text changed", "title"): 1})
 
 
-def test_folders_whose_names_are_no_unicode_are_in_json_that_strict_parsers_take(archive, called, monkeypatch):
-    """They refuse half of a surrogate pair. A folder that moved, and one that isn't there, have such names."""
-    old, new, absent = b"de\xffsk", b"wo\xfek", b"ga\xffe"
-    monkeypatch.chdir(archive)
-    os.rename("web", old)
-    os.rename("ceramics", absent)
-    called("nightly", str(archive), "--catalogue", "c.catalogue", "--json")
-    os.rename(old, new)
-    shutil.rmtree(absent)
-    printed = called("nightly", str(archive), "--catalogue", "c.catalogue", "--json")[1]
-    news = {it["news"]: it for it in map(json.loads, printed.splitlines()) if "news" in it}
-    json.dumps(list(news.values()), ensure_ascii=False).encode()
-    moved, gone = news["folder moved"], news["folder not there"]
-    (was,), (absent_now,) = moved["pictures"], gone["pictures"]
-    assert [bytes.fromhex(it["path_hex"]) for it in (was, was["to"], absent_now)] == [old, new, absent]
-    paths = [f"{archive}/{it['path']}" for it in (was, was["to"], absent_now)]
-    assert [moved["about"], moved["to"], gone["about"]] == paths
-
-
 def test_a_folder_that_was_removed(archive, night, called):
     """It is in each letter until `forget`. If one of its pictures was found elsewhere, somebody emptied it."""
     night()
@@ -287,17 +243,6 @@ def test_a_folder_that_was_removed(archive, night, called):
 
 
 # Runs at the same time, and folders that aren't there
-
-
-@pytest.mark.parametrize("names", [["typo"], ["p", "typo"]], ids="-".join)
-def test_a_folder_that_no_night_has_seen(names, archive, night, called):
-    """It would never have news, and the job would be silent for ever."""
-    status, printed, messages = called("nightly", *names, "--catalogue", "c.catalogue")
-    assert (status, printed) == (3, "") and "typo" in messages
-    assert night()[0] == 1
-    status, printed, messages = called("nightly", *names, "--catalogue", "c.catalogue")
-    assert (status, printed) == (3, "") and "typo" in messages
-    assert night()[0] == 0
 
 
 def test_two_runs_at_once(archive, night, folder):
@@ -509,22 +454,6 @@ def test_a_file_of_another_kind_stays(name, make, archive, night, called, folder
     assert make == "pipe" or there.read_bytes() == b"somebody's"
 
 
-def test_sidecars_and_excluded_files(archive, night):
-    """A sidecar is part of its picture, and what is excluded is no news."""
-    night("--sidecars", "--exclude", "*.tmp.jpg", "--maker-notes")
-    put(archive, {"web/0.jpg.xmp": xmp("<dc:title>t</dc:title>"), "web/1.tmp.jpg": picture(11)})
-    aged(archive)
-    status, news, _ = night("--exclude", "*.tmp.jpg")
-    assert (status, news) == (1, {("text changed", "title"): 1})
-
-
-@needs("exiftool", "exiv2")
-def test_names_of_the_first_letter(archive, called):
-    """They are those below the folder, as in each later letter."""
-    put(archive, {"web/0.orf": CUT})
-    assert "1 can't be read: web/0.orf" in called("nightly", "p", "--catalogue", "n")[1]
-
-
 @pytest.mark.parametrize("has_links", [True, False])
 def test_catalogues_of_several_days(has_links, archive, called, monkeypatch):
     """A letter's command answers days later as on its night; what isn't a catalogue is left alone."""
@@ -562,52 +491,3 @@ def test_catalogues_of_several_days(has_links, archive, called, monkeypatch):
     assert (archive.parent / "c.catalogue.2001-01-01").read_bytes() == b"a diary"
     (archive.parent / "c.catalogue.2026-11-33").write_bytes(b"a diary")
     assert night(33)[0] == 4 and "a file of another kind" in night(33)[2]
-
-
-# ---- A night in which nothing happened ends with 0, whatever an archive has that can't be read or compared wholly.
-
-PICTURE, REFUSED, UNREADABLE = jpeg(app1(exif(b"abc"))), jpeg(app1(BLOCKS["Overlap"])), jpeg(app1_xmp(b"<x"))
-
-
-@pytest.fixture
-def failing_archive(folder, monkeypatch):
-    """Pictures; one of which a part is never read; and five at which a program fails."""
-    put(folder / "p", {"a.jpg": PICTURE, "b.jpg": REFUSED, "c.jpg": UNREADABLE, "d.jpg": PICTURE + b"trailer"})
-    put(folder / "p", {f"failing{it}.jpg": PICTURE + bytes([it]) for it in range(5)})
-    read = looking._read
-
-    def fails(it, how, *more):
-        if b"failing" in it.path:
-            raise programs.Failed("exiv2 ended with status 1")
-        blocks, judged = read(it, how, *more)
-        if it.path.endswith(b"d.jpg"):
-            blocks.not_read[:] = [part._replace(digest="") for part in blocks.not_read]  # as a track of a CR3
-        return blocks, judged
-
-    monkeypatch.setattr(looking, "_read", fails)
-    return folder / "p"
-
-
-def test_nightly(failing_archive, called):
-    """The first run rings; the second one only for what is new; and nothing has changed between them."""
-    index = ["index", "p", "--catalogue", "c", "--keep-old", "last"]
-    status, printed, _ = called("index", "p", "--catalogue", "c")
-    assert status == 2 and printed.count("exiv2 ended with status 1") == 5 and "5 at which a program failed" in printed
-    status, printed, _ = called(*index)
-    assert status == 0 and "exiv2 ended" not in printed and "5 at which a program failed as before" in printed and "4 unchanged" in printed
-    status, printed, _ = called("changed", "last", "c")
-    assert status == 0 and printed.startswith("9 pictures compared: none changed."), printed
-    assert "6 the same file" in printed
-    shutil.copy(failing_archive / "failing0.jpg", failing_archive / "failing5.jpg")
-    status, printed, _ = called(*index)
-    assert (
-        status == 2
-        and printed.count("exiv2 ended") == 1
-        and "5 at which a program failed as before" in printed
-        and "1 at which a program failed" in printed
-    )
-
-
-def test_one_catalogue_with_itself(failing_archive, called):
-    called("index", "p", "--catalogue", "c", "--quiet")
-    assert called("changed", "c", "c")[0] == 0

@@ -18,8 +18,6 @@ from studio import SMALL_JPEG, TOP, put
 from exifnorm_pictures.cli import parser
 from exifnorm_pictures.cli.options import Fields, Files, Least, Output, Run
 from exifnorm_pictures.files.session import Session
-from exifnorm_pictures.model import budgets
-from exifnorm_pictures.scan import walk
 
 BOWL, PHONE = f"{TOP}/samples/before/ceramics/2003-12-bowl.jpg", f"{TOP}/samples/before/arrivals/IMG_20240502.jpg"
 LISTED = ("--files-from", "list", "-0")
@@ -94,52 +92,7 @@ def of_each_command(*spellings):
     return [(name, spelling) for spelling in spellings for name, of_command in options() if spelling in of_command]
 
 
-TRACEBACKS, LIMITS, SHEETS, LISTS = (of_each_command(it) for it in ("--debug", "--limit", "--xlsx", "--files-from"))
-WHOLE, HOWS = of_each_command("--whole"), of_each_command("--jobs", "--sidecars", "--pixels")
 NAMED = {"index": ("c", "p"), "nightly": ("c", "p")}  # whose catalogue can be given in two ways
-
-
-@pytest.mark.parametrize("command, option", LIMITS)
-def test_the_time_limit_of_each_command(command, option, archive, called, monkeypatch):
-    """It is that of the session, in which the programs run."""
-    limits = []
-    monkeypatch.setattr(
-        importlib.import_module(f"exifnorm_pictures.cli.commands.{command.split()[-1]}"),
-        "run",
-        lambda arguments: limits.append(arguments.session.seconds) or 0,
-    )
-    assert called(*command.split(), *COMMANDS[command], option, "7.5")[0] == 0
-    assert limits == [7.5]
-
-
-@pytest.mark.parametrize("command, option", WHOLE)
-def test_each_byte_is_read_by_each_command(command, option, archive, called, monkeypatch):
-    """Of each picture that the command reads."""
-    read, budget = [], budgets.Budget.__init__
-    monkeypatch.setattr(budgets.Budget, "__init__", lambda self, whole=False: read.append(whole) or budget(self, whole))
-    words = {"compare": ("p/a.jpg", "p/a.jpg"), "index": ("p", "--catalogue", "other"), "check": OF_CHECK}.get(command, COMMANDS[command])
-    words = [*(it for it in words if it not in LISTED), *(["p/a.jpg"] * (words == LISTED))]
-    called(*command.split(), *words)
-    assert not any(read), "without the option"
-    for path in ("other", "nights", "page"):
-        (archive / path).unlink(missing_ok=True)
-    read.clear()
-    called(*command.split(), *words, option)
-    assert any(read)
-
-
-@pytest.mark.parametrize("command, option", HOWS)
-def test_how_each_command_looks_at_pictures(command, option, archive, called, monkeypatch):
-    hows, how = [], walk.How.__new__
-    monkeypatch.setattr(walk.How, "__new__", lambda *given, **more: hows.append(how(*given, **more)) or hows[-1])
-    words = [it for it in {"index": ("p", "--catalogue", "other"), "check": OF_CHECK}.get(command, COMMANDS[command]) if it not in LISTED]
-    called(*command.split(), *words, option, *(["3"] * (option == "--jobs")))
-    assert {getattr(it, option[2:]) for it in hows} >= {3 if option == "--jobs" else True}
-
-
-def test_only_commands_that_make_a_catalogue_have_an_option_for_it():
-    """`catalogue merge` makes the one of its option from those that are its names."""
-    assert set(NAMED) == {name for name, spellings in options() if "--catalogue" in spellings} - {"catalogue merge"}
 
 
 @pytest.mark.parametrize("command", NAMED)

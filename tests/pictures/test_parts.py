@@ -215,22 +215,6 @@ def test_a_part_that_is_gone_is_named_by_each_command(name, folder, called):
     assert called(*night)[:2] == (0, ""), "it is news once"
 
 
-@pytest.mark.parametrize("name", NAMED)
-def test_without_pixels_a_part_is_known_by_its_length(name, folder, called):
-    """A night in which it goes is news; and nothing is said of files of which one has digests in place of lengths."""
-    poor, rich, part = NAMED[name]
-    night = ("nightly", "n", "--catalogue", "c")
-    put(folder / "n", {"x": rich + b"behind" * ("PNG" in name)})
-    called(*night)
-    called("index", "n", "--catalogue", "by-digests", "--quiet", "--pixels")
-    called("index", "n", "--catalogue", "by-lengths", "--quiet")
-    assert called("changed", "by-lengths", "by-digests")[0] == called("changed", "by-digests", "by-lengths")[0] == 0
-    put(folder / "n", {"x": poor + b"behind" * ("PNG" in name)})
-    status, printed, _ = called(*night)
-    assert status == (2 if name in NOT_READ else 1) and (f"{part} removed" in printed) != (name in NOT_READ)
-    assert part in called("changed", "c.before", "c", "--each")[1]
-
-
 def names_met(octets):
     """The names of the rest of a file whose lengths a reader of metadata meets, or of parts that it names."""
     blocks = readers.reader_of(octets[: readers.HEAD], b"")(io.BytesIO(octets), False)
@@ -244,31 +228,6 @@ def test_a_reader_meets_all_rest_but_what_is_behind_the_pixels(name):
     octets = FILES[name]
     rest_of = {it.name.partition(" (")[0] for it in parts_of(octets) if it.kind == streams.REST and it.name != streams.TRAILER}
     assert {it for it in rest_of if it not in names_met(octets)} <= {"MPF picture 2", "MPF picture 3", "zTXt chunk Rawprofile"}
-
-
-def test_lengths_of_what_is_not_whole(folder, called):
-    """Of a head with a fault it isn't known what it had; a part with another length has changed; one of the same length isn't known to have."""
-    whole = jpeg(app1(A), segment(0xFE, b"by Anna"), segment(0xE2, b"ICC_PROFILE\0\1\1abc"))
-    now = {
-        "a": whole.replace(b"\xff\xe2", b"\0\xe2"),
-        "b": whole.replace(b"\0\x09by Anna", b"\0\x08by Ida"),
-        "c": whole.replace(b"by Anna", b"by Otto"),
-    }
-    for catalogue, files in (("c", dict.fromkeys(now, whole)), ("d", now)):
-        put(folder / "n", files)
-        called("index", "n", "--catalogue", catalogue, "--quiet")
-    results = [json.loads(it) for it in called("changed", "c", "d", "--json", "--all", "--no-programs")[1].splitlines()]
-    notes = {
-        it["path"]: (it["result"], "removed" in it["note"], "comment changed" in it["note"]) for it in results if it["record"] == "picture"
-    }
-    assert notes == {"a": ("not known", False, False), "b": ("other parts, the same metadata", False, True), "c": ("same", False, False)}
-
-
-def test_parts_that_each_lacks(called, indexed):
-    """None may go, and each says which parts it has or lacks."""
-    indexed({"a": jpeg(app1(A), segment(0xFE, b"one")), "b": jpeg(app1(A), segment(0xEB, JUMBF)), "c": jpeg(app1(A))}, "--pixels")
-    rows = list(csv.DictReader(called("same", "c", "--csv")[1].splitlines()))
-    assert [it["keep"] for it in rows] == ["1", "", "0"] and streams.CREDENTIALS in rows[1]["note"]
 
 
 @given(*[st.dictionaries(st.sampled_from("abc"), st.sampled_from(("0f", "1e", "")), max_size=3)] * 2)
@@ -287,39 +246,6 @@ def test_the_first_file_that_has_all_parts_of_another(files):
         assert fullest.has_all_of(at, rest.text_of(names)) == next(has_all, at)
 
 
-JFIF, DENSER = segment(0xE0, b"JFIF\0\1\1\0\0\1\0\1\0\0"), segment(0xE0, b"JFIF\0\1\1\1\0\x48\0\x48\0\0")
-WRITTEN = {
-    "JFIF": (jpeg(JFIF, app1(A)), jpeg(DENSER, app1(A)), "JFIF changed"),
-    "a thumbnail": (jpeg(app1(A), segment(0xE0, b"JFXX\0\x10AAAA")), jpeg(app1(A)), "thumbnail of JFIF removed"),
-    "resources": (
-        jpeg(app13(resource(0x0404, K) + resource(0x03ED, bytes(16)) + resource(0x040C, b"one"))),
-        jpeg(app13(resource(0x0404, K) + resource(0x0425, bytes(16)) + resource(0x040C, b"two"))),
-        "Photoshop resource 03ed (resolution) removed, Photoshop resource 040c (thumbnail) changed",
-    ),
-    "the time of a PNG": (png(chunk(b"eXIf", A)), png(chunk(b"eXIf", A), chunk(b"tIME", bytes(7))), "tIME chunk added"),
-}
-
-
-@pytest.mark.parametrize("name", WRITTEN)
-def test_what_programs_write_by_themselves_is_named_and_is_no_news(name, folder, called):
-    before, after, words = WRITTEN[name]
-    put(folder / "p", {"a": before, "b": after})
-    status, printed, _ = called("compare", "p/a", "p/b")
-    assert status == 0 and printed.endswith(f"Other parts of the files differ: {words}.\n")
-    called("index", "p", "--catalogue", "c", "--quiet", "--pixels")
-    assert [it["keep"] for it in csv.DictReader(called("same", "c", "--csv")[1].splitlines())] == ["1", "0"]
-    put(folder / "n", {"x": before})
-    night = ("nightly", "n", "--catalogue", "of-nights", "--pixels")
-    called(*night)
-    called("index", "n", "--catalogue", "first", "--quiet", "--pixels")
-    put(folder / "n", {"x": after})
-    assert called(*night)[:2] == (0, "")
-    status, printed, _ = called("changed", "first", "of-nights", "--each")
-    assert status == 0 and words in printed
-    status, printed, _ = called("verify", "first")
-    assert status == 0 and words in printed
-
-
 def test_a_part_that_is_too_large_is_never_equal(folder, called, monkeypatch):
     monkeypatch.setattr(budgets, "UNREAD_BYTES", 100)
     put(folder / "p", {"a": png(chunk(b"eXIf", A), chunk(b"prIv", b"a" * 101)), "b": png(chunk(b"eXIf", A), chunk(b"prIv", b"b" * 101))})
@@ -329,21 +255,6 @@ def test_a_part_that_is_too_large_is_never_equal(folder, called, monkeypatch):
     assert [it["keep"] for it in csv.DictReader(called("same", "c", "--csv")[1].splitlines())] == ["", ""]
     called("index", "p", "--catalogue", "d", "--quiet", "--pixels")
     assert called("changed", "c", "d")[0] == 0, "the files have the same bytes"
-
-
-@pytest.mark.parametrize("name", ("a PNG", "a WebP"))
-def test_a_picture_with_as_many_chunks_as_may_be(name, folder, called, monkeypatch):
-    """It is compared as a whole. With one more it isn't read, and nobody says that its format isn't."""
-    octets = FILES[name]
-    left = readers.reader_of(octets[: readers.HEAD], b"")(io.BytesIO(octets), False).budget.left
-    count = budgets.LIMITS[budgets.CHUNKS] - left[budgets.CHUNKS]
-    put(folder, {"a": octets, "b": octets.replace(b"video", b"other")})
-    monkeypatch.setitem(budgets.LIMITS, budgets.CHUNKS, count)
-    status, printed, _ = called("compare", "a", "b")
-    assert status in (1, 2) and printed.endswith("Other parts of the files differ: trailer changed.\n")
-    monkeypatch.setitem(budgets.LIMITS, budgets.CHUNKS, count - 1)
-    status, printed, _ = called("compare", "a", "b")
-    assert (status, "more than" in printed, "format" in printed) == (1, True, False), printed
 
 
 def test_many_names(folder, called):
@@ -373,11 +284,3 @@ def test_content_credentials_are_named(name, folder, called):
     for words in (("a", "b"), ("b", "a")):
         status, printed, _ = called("compare", *words, "--no-programs")
         assert status in (1, 2) and "content credentials (not validated)" in printed, printed
-
-
-def test_a_refused_block_with_the_same_bytes_is_no_other_caption(folder, called):
-    put(folder / "n", {"x": jpeg(app1(b"no header"), segment(0xFE, b"one"))})
-    called("index", "n", "--catalogue", "c", "--quiet", "--pixels")
-    put(folder / "n", {"x": jpeg(app1(b"no header"))})
-    (verified, _) = map(json.loads, called("verify", "c", "--json")[1].splitlines())
-    assert (verified["state"], verified["note"]) == ("other parts", "comment removed")

@@ -386,18 +386,6 @@ class Scale(WithPictures):
 
     # Statements, rows that Python gets, and steps of SQLite
 
-    def test_statements_of_an_index(self):
-        new, again = [], []
-        for count in (100, 200):
-            self.pictures(f"p{count}", count)
-            words = ["index", f"p{count}", "--catalogue", f"c{count}", "--jobs", "1", "--quiet"]
-            new.append(self.counted(*words)["statement"])
-            again.append(self.counted(*words)["statement"])
-            self.assertEqual(self.said, f"{count} unchanged\n")
-        # an old row goes, a new one comes; its two blocks
-        self.assertLessEqual(new[1] - new[0], 4 * 100)
-        self.assertEqual(again[1] - again[0], 100)
-
     def test_statements_of_equal_pictures_that_moved(self):
         """A thousand pictures of the same bytes are paired each with one, and not by looking at all others for each of them."""
         costs = []
@@ -422,51 +410,6 @@ class Scale(WithPictures):
         self.assertLess(own[1], 350)  # the pictures of the first tasks, which are short, come one by one
 
     # Modules
-
-    def test_modules_that_a_command_imports(self):
-        """What few commands need isn't imported by the others: most runs end sooner than all modules are imported."""
-        self.pictures("p", 2)
-        self.asked("index", "p", "--catalogue", "c", "--quiet")
-        call = "import sys; from exifnorm_pictures.cli.main import main; main(sys.argv[1:]); print(*sys.modules, file=sys.stderr)"
-        reading = [f"exifnorm_pictures.{it}" for it in ("extract.extraction", "scan.looking")]
-        fields = {"dataclasses", "difflib", "fractions", "inspect", "textwrap"}
-        start = {"argparse", "hashlib", "json", "re", "typing", "exifnorm_pictures.cli.parser"}
-        base = {"sqlite3", "exifnorm_pictures.catalogue.store"}
-        names = (
-            "catalogue.kept_texts",
-            "comparison.changed.pairs",
-            "comparison.changed.states",
-            "comparison.same.groups",
-            "extract.coded_others",
-            "extract.readers",
-            "refusals.explain",
-            "refusals.mend",
-            "refusals.repairs",
-            "report.rendering",
-        )
-        watched = {"exifnorm._library", "html", "jinja2", "logging", "multiprocessing", "subprocess", "urllib", "xml", *reading, *fields}
-        watched.update(start, base, (f"exifnorm_pictures.{it}" for it in names))
-        for words, needed in (
-            (["--version"], {"exifnorm._library"}),
-            (["same", "c"], {*start, *base, *fields, "exifnorm_pictures.comparison.same.groups"}),
-            (["index", "p", "--catalogue", "c", "--quiet"], {*start, *base}),
-            (["index", "p", "--catalogue", "e", "--quiet"], {*start, *base, "exifnorm._library", *reading}),
-            (["catalogue", "merge", "c", "--catalogue", "d"], {*start, *base}),
-            (
-                ["changed", "c", "c"],
-                {*start, *base, *fields, *(f"exifnorm_pictures.comparison.changed.{it}" for it in ("pairs", "states"))},
-            ),
-            (["show", "p/0000.jpg"], {*start, "exifnorm._library", reading[0]}),
-            (
-                ["compare", "p/0000.jpg", "p/0001.jpg"],
-                {*start, "exifnorm._library", *reading, "exifnorm_pictures.comparison.changed.states"},
-            ),
-        ):
-            with self.subTest(words[0]):
-                done = run([sys.executable, "-S", "-c", call, *words], self.folder)
-                imported = set(done.stderr.decode().split())
-                self.assertIn("exifnorm_pictures.cli.main", imported)
-                self.assertEqual(watched & imported - needed, set(), done.stdout)
 
     # Files and processes
 

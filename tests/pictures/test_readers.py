@@ -1,5 +1,4 @@
-"""What the readers of picture formats find, written out here: the name, position and bytes of each block, each part that they leave, and
-the reason why a file is broken."""
+"""What the readers of picture formats find: beside ExifTool and exiv2, behind the end of a picture, and of damaged files."""
 
 import hashlib
 import io
@@ -14,14 +13,12 @@ from unittest import mock
 
 from hypothesis import given, settings, strategies as st
 from in_memory import Counting, found_in, reader_of
-from made_blocks import ASCII, LONG, SHORT, segment
+from made_blocks import ASCII, LONG, segment
 from made_files import (
     A,
     B,
     K,
-    L,
     T,
-    U,
     Placed,
     app1,
     app13,
@@ -42,9 +39,9 @@ from made_files import (
 from made_raw import arw, camera_profile, dng, rw2, sony, whole_raf
 from studio import SMALL_JPEG, WithPictures, interpreter_with, needs, put, read, run, tool, write
 
-from exifnorm_pictures.extract.formats import jpeg as jpeg_, tiff as tiff_, tiff_directories
+from exifnorm_pictures.extract.formats import jpeg as jpeg_
 from exifnorm_pictures.model import budgets
-from exifnorm_pictures.model.found import Blocks, Broken, LeftToOthers, ordinal
+from exifnorm_pictures.model.found import Broken, LeftToOthers
 from exifnorm_pictures.extract import extraction
 
 MIN = b"\xff\xd8\xff\xda\0\2\xff\xd9"  # a JPEG of one scan without data
@@ -67,78 +64,6 @@ class Readers(unittest.TestCase):
             (found.problem, found.detail, found.extractor, {it.extractor for it in found.blocks} | {"own"}), (None, "", "own", {"own"})
         )
         return found
-
-    def broken(self, octets, why, whole=False):
-        with self.assertRaises(Broken) as caught:
-            found_in(octets, whole)
-        self.assertEqual(str(caught.exception), why)
-
-    def too_much(self, octets, why):
-        with self.assertRaises(budgets.TooMuch) as caught:
-            found_in(octets)
-        self.assertEqual(str(caught.exception), why)
-
-    def test_segments_of_a_jpeg(self):
-        two, name = extension(b"extended", 5)
-        pieces = [
-            app1(A),
-            segment(0xE1, b"Exif\0\0" + b"goes on"),
-            app1_xmp(T),
-            two[0],
-            two[1],
-            app1_xmp(U),
-            segment(0xE1, b"\0\0EXIF\0#" + B),
-            segment(0xE1, b"http://other"),
-            segment(0xE3, b"Meta\0\0abc"),
-            segment(0xE3, b"other"),
-            segment(0xE2, b"ICC_PROFILE\0"),
-            app13(resource(0x0404, K), resource(0x0422, b"Exif\0\0" + A), resource(0x0423, b"more"), resource(0x0424, T)),
-            segment(0xED, b"Adobe_CM"),
-            segment(0xED, b"Adobe_Photoshop2.5:12345678" + resource(0x0404, L) + b"rest"),
-            segment(0xED, b"other"),
-        ]
-        at = [2 + sum(map(len, pieces[:number])) for number in range(len(pieces))]
-        found = self.seen(
-            jpeg(*pieces),
-            [
-                ("xmp", "XMP", f"APP1 segment at {at[2]}", T),
-                ("xmp", "second XMP", f"APP1 segment at {at[5]}", U),
-                ("exif", "Exif", "APP1 segment at 2", A + b"goes on"),
-                ("exif", "second Exif", f"APP1 segment at {at[6]}", B),
-                ("iptc", "IPTC", f"Photoshop resource 0404 in the APP13 segment at {at[11]}", K),
-                ("exif", "third Exif", f"Photoshop resource 0422 in the APP13 segment at {at[11]}", A),
-                ("xmp", "third XMP", f"Photoshop resource 0424 in the APP13 segment at {at[11]}", T),
-                ("iptc", "second IPTC", f"Photoshop resource 0404 in the APP13 segment at {at[13]}", L),
-                ("xmp", "extended XMP", f"APP1 segment at {at[3]}", b"extended"),
-            ],
-            [
-                ("APP1 segment of an unknown kind", b"http://other"),
-                ("APP3 segment Meta", b"Meta\0\0abc"),
-                ("APP3 segment other", b"other"),
-                ("APP13 segment of an unknown kind", b"other"),
-                (f"Photoshop resource 0423 in the APP13 segment at {at[11]}", b"more"),
-                (f"bytes behind the Photoshop resources in the APP13 segment at {at[13]}", b"rest"),
-            ],
-        )
-        self.assertEqual((found.type, found.has_more, found.blocks[-1].extends), ("JPEG", False, name))
-
-    def test_what_is_after_resources(self):
-        """Zeros are padding; anything else, and a resource that is cut, is named with all that follows."""
-        one = resource(0x0404, K)
-        for rest, unread in (
-            (b"", b""),
-            (bytes(9), b""),
-            (b"\0\0x\0", b"\0\0x\0"),
-            (one[:-1], one[:-1]),
-            (one[:11], one[:11]),
-            (b"8BIM", b"8BIM"),
-        ):
-            what = "bytes behind the Photoshop resources in the APP13 segment at 2"
-            self.seen(
-                jpeg(app13(one + rest)),
-                [("iptc", "IPTC", "Photoshop resource 0404 in the APP13 segment at 2", K)],
-                [(what, unread)] if unread else [],
-            )
 
     def test_after_a_jpeg(self):
         end = len(SMALL_JPEG)
@@ -177,43 +102,6 @@ class Readers(unittest.TestCase):
         )
         self.seen(octets[: end - 2 + 10], [], [("metadata segment behind the first scan", late[:10])])
 
-    def test_broken_jpegs(self):
-        for octets, why in (
-            (b"\xff\xd8\xff\xe0\0\2abcd", "no marker at 6"),
-            (b"\xff\xd8\xff\0ab", "no marker at 2"),
-            (b"\xff\xd8\xff\xe0\0\1ab", "no segment at 2"),
-            (b"\xff\xd8\xff\xfe\0\2\xfe\xe0\0\x07JFIF\0", "no marker at 6"),
-            (b"\xff\xd8\xff\xe1\0\x09Exif", "the file ends inside the segment at 2"),
-            (b"\xff\xd8\xff\xff\xff\xe1\0\x09Exif", "the file ends inside the segment at 4"),
-        ):
-            self.broken(octets, why)
-        self.too_much(MIN[:-2] + b"\xff\xe1\0\2" * 1001, "more than 1,000 metadata segments after the first scan")
-        self.assertEqual(len(found_in(MIN[:-2] + b"\xff\xed\0\2" * 1000).not_read), 1000)
-        for it in (b"\xff\xfe\0\2", segment(0xED, b"Adobe_CM")):  # also if each segment is looked at
-            with mock.patch.dict(budgets.LIMITS, {budgets.SEGMENTS: 5}):
-                self.assertEqual(found_in(b"\xff\xd8" + it * 4 + b"\xff\xd9").not_read, [])
-                self.too_much(b"\xff\xd8" + it * 6 + b"\xff\xd9", "more than 5 segments")
-        whole = b"\xff\xd8" + app1(A) + app1(B)
-        with mock.patch.dict(budgets.LIMITS, {budgets.SEGMENT_BYTES: len(whole) + 2}):
-            self.assertEqual(len(found_in(whole + b"\xff\xd9").blocks), 2)
-            self.too_much(whole + segment(0xFE, b"") + b"\xff\xd9", f"more than {len(whole) + 2:,} bytes of segments")
-        with mock.patch.dict(budgets.LIMITS, {budgets.SEGMENTS: 13}):  # the pictures of an index have one budget
-            self.assertEqual(len(found_in(mpf(app1(A), MIN, MIN)).not_read), 0)
-            self.too_much(mpf(app1(A), *[MIN] * 8), "more than 13 segments")
-
-    def test_limits_of_all_formats(self):
-        """Blocks, resources, and parts that are not read: the first eight of a file take no time to count."""
-        for what, one in ((budgets.BLOCKS, app1(A) + b"\xff\x01"), (budgets.NOT_READ, segment(0xE1, b"unknown"))):
-            with mock.patch.dict(budgets.LIMITS, {what: 2}):
-                blocks = found_in(jpeg(*[one] * 10))
-                self.assertEqual(len(blocks.blocks) + len(blocks.not_read), 10)
-                self.too_much(jpeg(*[one] * 11), f"more than 2 {what}")
-        many = [resource(0x0425, b"")] * 20
-        with mock.patch.dict(budgets.LIMITS, {budgets.RESOURCES: 20}):
-            self.assertEqual(found_in(jpeg(app13(*many))).blocks, [])
-            self.too_much(jpeg(app13(*many, *many)), "more than 20 Photoshop resources")
-            self.too_much(png(profile(b"8bim", b"".join(many)), profile(b"8bim", b"".join(many))), "more than 20 Photoshop resources")
-
     def test_bytes_after_a_picture(self):
         """More than may be read have no digest, so the file is the same as no other."""
         for octets in (SMALL_JPEG, png(), webp((b"EXIF", A)), tiff(page())):
@@ -221,26 +109,6 @@ class Readers(unittest.TestCase):
                 self.assertTrue(found_in(octets + b"x" * 299_000).not_read[0].digest)
                 (part,) = found_in(octets + b"x" * 300_001).not_read
                 self.assertEqual(part.digest, "", part.what)
-
-    def test_the_whole_file(self):
-        """With --whole each limit is 64 times as high."""
-        for what, one in ((budgets.NOT_READ, segment(0xE1, b"unknown")), (budgets.SEGMENTS, segment(0xFE, b""))):
-            with mock.patch.dict(budgets.LIMITS, {what: 1}):
-                stream = io.BytesIO(jpeg(*[one] * 40))
-                self.too_much(stream.getvalue(), f"more than 1 {what}")
-                stream = mock.Mock(wraps=stream, budget=budgets.Budget(whole=True))
-                self.assertEqual(jpeg_.read(stream, True).type, "JPEG")
-        self.assertEqual(
-            {what: most / budgets.LIMITS[what] for what, most in budgets.Budget(whole=True).left.items()}, dict.fromkeys(budgets.LIMITS, 64)
-        )
-
-    def test_the_time_that_a_file_takes(self):
-        """The clock begins when it is first looked at, which small pictures never do."""
-        times = []
-        with mock.patch.object(budgets.time, "thread_time", lambda: times.append(len(times) * 3.0) or times[-1]):
-            found_in(jpeg(app1(A)))
-            self.assertEqual(times, [])
-            self.too_much(png(*[chunk(b"aaaa", b"")] * 100), "more than 5 seconds of a processor")
 
     def test_texts_of_a_png(self):
         head = b"Raw profile type iptc\0"
@@ -269,210 +137,8 @@ class Readers(unittest.TestCase):
             [("iptc", "IPTC", "zTXt chunk at 33", b"\x1c\2\x19")],
         )
 
-    def test_broken_pngs(self):
-        whole = png(chunk(b"eXIf", A))
-        after = len(whole) - 12  # of IEND
-        for octets, why in (
-            (whole[:-1], f"the file ends inside the chunk at {after}"),
-            (whole[:-8], f"the file ends inside the 8 bytes at {after}"),
-            (png(chunk(b"eXIf", A, wrong=1)), "wrong check sum of the chunk at 33"),
-            (whole[:33] + struct.pack(">I", 0xFFFFFFFF) + b"eXIf", "the file ends inside the chunk at 33"),
-        ):
-            self.broken(octets, why)
-        with mock.patch.dict(budgets.LIMITS, {budgets.CHUNKS: 4, budgets.CHUNK_BYTES: 1000}):
-            self.assertEqual(len(found_in(whole).blocks), 1)
-            self.too_much(png(chunk(b"aaaa", b""), chunk(b"bbbb", b"")), "more than 4 chunks")
-            self.too_much(png(chunk(b"eXIf", bytes(1001))), "more than 1,000 bytes of chunks")
-            self.assertEqual(len(found_in(png(chunk(b"eXIf", bytes(1000)))).blocks), 1)
-            packed = chunk(b"zTXt", b"xml:com.adobe.xmp\0\0" + zlib.compress(bytes(2000)))
-            self.too_much(png(packed), "more than 1,000 bytes of chunks")
-
-    def test_chunks_of_a_webp(self):
-        self.seen(webp(*((kind, b"1") for kind in (b"VP8 ", b"VP8L", b"VP8X", b"ALPH", b"ANIM", b"ANMF", b"ICCP")), behind=bytes(3)), [])
-        with mock.patch.dict(budgets.LIMITS, {budgets.CHUNKS: 3, budgets.CHUNK_BYTES: 100}):
-            self.too_much(webp(*[(b"VP8 ", b"")] * 3), "more than 3 chunks")
-            self.assertEqual(len(found_in(webp(*[(b"EXIF", b"")] * 2)).blocks), 2)
-            self.too_much(webp((b"EXIF", bytes(101))), "more than 100 bytes of chunks")
-            self.assertEqual(len(found_in(webp((b"EXIF", bytes(100)))).blocks), 1)
-
-    def test_pages_of_a_tiff(self):
-        below = [(0x010F, ASCII, b"below\0"), (0x014A, LONG, [(0x0110, ASCII, b"deep\0\0")])]
-        first = page(
-            (0x010F, ASCII, b"Maker one\0"),
-            (0x014A, LONG, below),
-            (0x02BC, 1, T),
-            (0x83BB, 7, K),
-            (0x8649, 7, resource(0x0404, L) + b"rest"),
-            (0x935C, 7, b"layers"),
-            (0x8606, LONG, 0),
-        )
-        octets = tiff(first, page((0x02BC, 1, U)), behind=b"\0behind")
-        with mock.patch.object(
-            tiff_,
-            "Layout",
-            lambda _, table: mock.Mock(length=8, note=None, has_ifd=False, block=lambda _: [it.tag for it in table.entries]),
-        ):
-            found = found_in(octets)
-        kept = [0x100, 0x101, 0x102, 0x103, 0x106, 0x10F, 0x115, 0x116, 0x8606]
-        places = [it.where.partition(",")[0] for it in found.blocks if it.kind == "exif"]
-        self.assertEqual(
-            [(it.kind, it.name, it.where, it.data) for it in found.blocks],
-            [
-                ("xmp", "XMP", "tag 02bc of page 1", T),
-                ("iptc", "IPTC", "tag 83bb of page 1", K),
-                ("iptc", "second IPTC", "Photoshop resource 0404 in the tag 8649 of page 1", L),
-                ("exif", "Exif", f"{places[0]}, without StripByteCounts, StripOffsets, SubIFDs", kept),
-                ("exif", "Exif of SubIFD 1 of page 1", f"{places[1]}, without SubIFDs", [0x10F]),
-                ("exif", "Exif of SubIFD 1 of SubIFD 1 of page 1", places[2], [0x110]),
-                ("xmp", "XMP of page 2", "tag 02bc of page 2", U),
-                (
-                    "exif",
-                    "Exif of page 2",
-                    f"{places[3]}, without StripByteCounts, StripOffsets",
-                    [it for it in kept if it not in (0x10F, 0x8606)],
-                ),
-            ],
-        )
-        self.assertEqual(int(places[0].rpartition(" ")[2]), struct.unpack_from(">I", octets, 4)[0])
-        self.assertEqual(
-            [tuple(it) for it in found.not_read],
-            [
-                ("Leaf's IFD of page 1", ""),
-                *left(
-                    ("bytes behind the Photoshop resources in the tag 8649 of page 1", b"rest"),
-                    ("Photoshop's layers of page 1", b"layers"),
-                    ("trailer of 7 bytes", b"\0behind"),
-                ),
-            ],
-        )
-        self.assertEqual((found.type, found_in(tiff(page())).not_read), ("TIFF", []))
-        for length, names in ((4, []), (5, ["Photoshop's layers of page 1"])):  # four bytes are in the entry, and so in the block
-            self.assertEqual([it.what for it in found_in(tiff(page((0x935C, 7, b"x" * length)))).not_read], names)
-
-    def test_entries_that_lead_to_pixels(self):
-        """By TIFF 6.0, sections 8, 15 and 22, and Technical Note 1; each is left out and named."""
-        names = {
-            0x0111: "StripOffsets",
-            0x0117: "StripByteCounts",
-            0x0120: "FreeOffsets",
-            0x0121: "FreeByteCounts",
-            0x0144: "TileOffsets",
-            0x0145: "TileByteCounts",
-            0x0201: "JPEGInterchangeFormat",
-            0x0202: "JPEGInterchangeFormatLength",
-            0x0207: "JPEGQTables",
-            0x0208: "JPEGDCTables",
-            0x0209: "JPEGACTables",
-        }
-        for order in "<>":
-            octets = tiff([(0x0110, ASCII, b"Xyz\0"), *((tag, LONG, 8) for tag in names)], order=order)
-            at = struct.unpack_from(order + "I", octets, 4)[0]
-            block = (b"II*\0" if order == "<" else b"MM\0*") + struct.pack(order + "IHHHI", 8, 1, 0x0110, ASCII, 4) + b"Xyz\0" + bytes(4)
-            self.seen(octets, [("exif", "Exif", f"directory at {at}, without {', '.join(sorted(names.values()))}", block)])
-        pointers = {0x0190: "GlobalParametersIFD", 0x8290: "Kodak's IFD", 0x8606: "Leaf's IFD", 0xFE00: "Kodak's IFD"}
-        for tag, name in pointers.items():
-            for kind, parts in ((LONG, [(f"{name} of page 1", "")]), (13, [(f"{name} of page 1", "")]), (SHORT, [])):
-                self.assertEqual([tuple(it) for it in found_in(tiff([(tag, kind, 8)])).not_read], parts)
-
-    def test_pointers_of_a_tiff(self):
-        """A pointer is one LONG (TIFF 6.0 and CIPA DC-008, 4.6.3), or one IFD (TIFF Technical Note 1), which is LONG in the block; what has
-        another type or count is a value, and stays as it is."""
-        for order in "<>":
-            head = (b"II*\0" if order == "<" else b"MM\0*") + struct.pack(order + "IH", 8, 1)
-            inside = struct.pack(order + "HHHII", 1, 0x9999, ASCII, 4, 0x61626300) + bytes(4)
-            for tag in (0x8769, 0x8825):
-                for kind, count in ((LONG, 2), (13, 2), (9, 1), (LONG, 0), (7, 4)):
-                    block = head + struct.pack(order + "HHII", tag, kind, count, 26) + bytes(4)
-                    block += struct.pack(order + "II", 26, 26) if count == 2 else b""
-                    rest = inside if count != 2 else b""
-                    trailer = [(f"trailer of {len(rest)} bytes", rest)] if rest else []
-                    self.seen(block + rest, [("exif", "Exif", "directory at 8", block)], trailer)
-                block = head + struct.pack(order + "HHII", tag, LONG, 1, 26) + bytes(4) + inside
-                self.seen(block, [("exif", "Exif", "directory at 8", block)])
-                as_ifd = block[:12] + struct.pack(order + "H", 13) + block[14:]
-                self.seen(as_ifd, [("exif", "Exif", "directory at 8, with pointers of type IFD as LONG", block)])
-                second = (
-                    block[:8]
-                    + struct.pack(order + "H", 2)
-                    + block[10:18]
-                    + struct.pack(order + "I", 38)
-                    + block[10:18]
-                    + struct.pack(order + "I", 8)
-                )
-                second += bytes(4) + inside
-                self.seen(second, [("exif", "Exif", "directory at 8", second[:30] + second[18:22] + second[34:])])
-
-    def test_where_a_tiff_ends(self):
-        """After its last directory, value or strip, wherever that is: what follows is a trailer."""
-        inside = [(0x9003, ASCII, b"12345678")]
-        below = tiff(page((0x8769, LONG, inside), (0x8825, LONG, [(0x001D, ASCII, b"abcdefgh")])))
-        strip = tiff(page())
-        for octets, tag, kind, count in (
-            (below, 0x9003, ASCII, 8),
-            (below, 0x001D, ASCII, 8),
-            (tiff(page((0x010F, ASCII, b"12345678"))), 0x010F, ASCII, 8),
-            (strip, 0x0111, LONG, 1),
-        ):
-            moved = bytearray(octets)
-            at = moved.index(struct.pack(">HHI", tag, kind, count)) + 8
-            struct.pack_into(">I", moved, at, len(octets))
-            behind = b"ABCDEFGH"[: 1 if tag == 0x0111 else 8]
-            self.assertEqual(found_in(bytes(moved) + behind).not_read, [], hex(tag))
-            self.assertEqual([tuple(it) for it in found_in(bytes(moved) + behind + b"xyz").not_read], left(("trailer of 3 bytes", b"xyz")))
-        many = bytearray(tiff([(0x100, LONG, 1), (0x0111, LONG, 8), (0x0117, LONG, 9)]) + b"xyz")
-        for most in (1, 0):  # strips whose places are looked at
-            with mock.patch.object(tiff_, "STRIPS", most):
-                self.assertEqual(len(found_in(bytes(many)).not_read), most)
-        struct.pack_into(">HHI", many, many.index(struct.pack(">HHI", 0x0117, LONG, 1)), 0x0118, LONG, 1)
-        self.assertEqual(found_in(bytes(many)).not_read, [], "without lengths of strips their end is not known")
-
-    def test_broken_tiffs(self):
-        value = bytearray(tiff(page((0x02BC, 1, b"Abcdefgh"))))
-        at = value.index(struct.pack(">HHI", 0x02BC, 1, 8)) + 8
-        first = struct.unpack_from(">I", value, 4)[0]
-        struct.pack_into(">I", value, at, first)
-        deep = page()
-        for _ in range(11):
-            deep = page((0x014A, LONG, deep))
-        for octets, why in (
-            (b"MM\0*\0\0\0\x08\0\1" + bytes(14), "the file ends inside the 16 bytes at 10"),
-            (b"MM\0*\0\0\0\x08\0", "the file ends inside the 2 bytes at 8"),
-            (b"MM\0*\0\0\0\x04" + bytes(50), "the directory at 4 shares bytes with another one"),
-            (b"II*\0\x08\0\0\0" + struct.pack("<HI", 0, 8), "the directory at 8 shares bytes with another one"),
-            (bytes(value), f"the value at {first} shares bytes with a directory"),
-            (tiff(deep), "more than 10 SubIFDs below one another"),
-        ):
-            self.broken(octets, why)
-        with mock.patch.dict(budgets.LIMITS, {budgets.VALUE_BYTES: 100}):
-            self.too_much(tiff(page((0x02BC, 1, b"x" * 101))), "more than 100 bytes of values")
-            self.too_much(tiff([(0x02BC, 1, b"x" * 60), (0x83BB, 1, b"x" * 41)]), "more than 100 bytes of values")
-            self.assertEqual(len(found_in(tiff(page((0x02BC, 1, b"x" * 100)))).blocks), 2)
-        three = tiff(*[[(0x100, LONG, 1), (0x101, LONG, 1)]] * 3)
-        named = b"MM\0*" + struct.pack(">IHHHII", 8, 1, 0x014A, LONG, 8, 26) + bytes(4 + 32)
-        for what, most in ((budgets.DIRECTORIES, 3), (budgets.ENTRIES, 6)):
-            with mock.patch.dict(budgets.LIMITS, {what: most - 1}):
-                self.too_much(three, f"more than {most - 1} {what}")
-            with mock.patch.dict(budgets.LIMITS, {what: most}):
-                self.assertEqual(len(found_in(three).blocks), 3)
-        with mock.patch.dict(budgets.LIMITS, {budgets.DIRECTORIES: 7}):  # SubIFDs count before any of them is read
-            self.too_much(named, "more than 7 directories")
-        with mock.patch.object(tiff_directories, "LIMIT", 33):
-            self.broken(tiff([], [(0x010F, ASCII, b"12345678")]), "page 2 has more than 33 bytes of values")
-        with mock.patch.object(tiff_directories, "LIMIT", 34):
-            self.assertEqual(len(found_in(tiff([(0x010F, ASCII, b"12345678")])).blocks), 1)
-
-    def test_ordinals(self):
-        words = ["first", "second", "third", "fourth", "fifth", "sixth", "seventh", "eighth", "ninth", "10th", "11th"]
-        self.assertEqual([ordinal(it) for it in range(1, 12)], words)
-        some = Blocks()
-        for kind, part in (("xmp", ""), ("xmp", "page 2"), ("xmp", "page 2"), ("iptc", "")):
-            some.add(kind, b"", "", part)
-        self.assertEqual([it.name for it in some.blocks], ["XMP", "XMP of page 2", "second XMP of page 2", "IPTC"])
-
 
 # ---- The readers of picture formats: beside ExifTool and exiv2 on files of real tools, and on damaged files and files that mean harm.
-
-CUT = "the rest of a damaged file (the file ends before its first scan, at {})"
 
 
 def named(blocks):
@@ -481,45 +147,6 @@ def named(blocks):
 
 class Found(unittest.TestCase):
     """Each block has its name and its bytes, in the order of the file."""
-
-    def test_what_is_between_two_pieces_of_a_block(self):
-        """A segment of any kind, and a marker without one, end a block: TEM (FF 01) and the restart marks (ITU T.81, B.1.1.3)."""
-        for between in (segment(0xFE, b"comment"), segment(0xE0, b"JFXX\0"), b"\xff\x01", b"\xff\xd0", b"\xff\xd7"):
-            found = named(found_in(jpeg(app1(A), between, app1(b"more"))))
-            self.assertEqual(found, [("exif", "Exif", A), ("exif", "second Exif", b"more")], between)
-            found = named(found_in(jpeg(app13(resource(0x404, K)), between, app13(resource(0x404, L)))))
-            self.assertEqual(found, [("iptc", "IPTC", K), ("iptc", "second IPTC", L)], between)
-
-    def test_a_picture_without_a_scan(self):
-        head = b"\xff\xd8" + app1(A)
-        for rest, unread in (
-            (b"", [CUT.format(len(head))]),
-            (b"\xff\xd9", []),
-            (b"\xff\xd9trailer", ["trailer of 7 bytes"]),
-            (segment(0xFE, b"c"), [CUT.format(len(head) + 5)]),
-        ):
-            found = found_in(head + rest)
-            self.assertEqual((named(found), [it.what for it in found.not_read]), ([("exif", "Exif", A)], unread), rest)
-        at, cut = len(head), "the file ends inside the segment"
-        for rest, why in (
-            (b"\xff", cut),
-            (b"\xff\xff", cut),
-            (b"\xff\xe1", cut),
-            (b"\xff\xe0\x01", cut),
-            (b"\xff\xe0\0\x01", "no segment"),
-            (b"\xff\0", "no marker"),
-            (b"\0", "no marker"),
-            (b"x", "no marker"),
-            (b"no marker", "no marker"),
-            *((bytes((0xFF, it, 0, 9)) + b"JFIF\0", cut) for it in (0xC0, 0xC4, 0xDA, 0xDB, 0xE0, 0xE2, 0xE4, 0xFE)),
-        ):
-            found = found_in(head + rest)  # the blocks before the damage count, and the file is never wholly read
-            self.assertEqual(named(found), [("exif", "Exif", A)], rest)
-            where = at + len(rest) - 1 if rest.strip(b"\xff") == b"" else at
-            self.assertEqual([it.what for it in found.not_read], [f"the rest of a damaged file ({why} at {where})"], rest)
-            self.assertEqual(found.not_read[0].digest, hashlib.sha256(rest).hexdigest())
-            with self.assertRaises(Broken, msg=rest):
-                found_in(b"\xff\xd8" + segment(0xFE, b"c") + rest)
 
     def test_where_the_first_bytes_of_the_file_end(self):
         """65,536 bytes are read at first: wherever they end, the segments are the same, and so is what is too short."""
@@ -530,16 +157,6 @@ class Found(unittest.TestCase):
                 with self.assertRaises(Broken, msg=(before, length)):
                     found_in(filled[:length])
             self.assertEqual(named(found_in(filled[:before])), [])
-
-    def test_an_index_that_leads_to_no_picture(self):
-        """The first picture is read all the same, and to its end, as nothing is known of where the others are."""
-        found = found_in(mpf(app1(A), b"no picture at all"))
-        self.assertEqual(named(found), [("exif", "Exif", A)])
-        self.assertIn("MPF index that does not fit the file (no picture at ", found.not_read[0].what)
-        octets = mpf(app1(A), b"no picture at all")
-        at = len(octets) - len(b"no picture at all") - 2
-        hidden = octets[:at] + app1_xmp(T) + b"\x11" * 100_000 + octets[at : at + 2]
-        self.assertIn("metadata segment behind the first scan", [it.what for it in found_in(hidden).not_read])
 
 
 @needs("exiftool")
@@ -569,18 +186,6 @@ class BesideOthers(WithPictures):
                         continue
                     blocks = found.of_kind(kind)
                     self.assertEqual([it.data for it in blocks], [self.block(tag, path)], kind)
-
-    @needs("convert", "exiv2")
-    def test_exiv2s_list_of_segments(self):
-        path = self.real("a.jpg")
-        octets = read(path)
-        said = tool(self.folder, "exiv2", "-pS", path).decode("utf-8", "replace")
-        places = [(int(at), int(size)) for at, size in re.findall(r"(?m)^ *(\d+) \| 0xffe1 APP1 +\| +(\d+) \| Exif", said)]
-        found = found_in(octets).of_kind("exif")
-        self.assertEqual([octets[at + 10 : at + 2 + size] for at, size in places], [it.data for it in found])
-        self.assertEqual([f"APP1 segment at {at}" for at, _ in places], [it.where for it in found])
-        packet = tool(self.folder, "exiv2", "-pX", path)
-        self.assertEqual([it.data.strip() for it in found_in(octets).of_kind("xmp")], [packet.strip()])
 
     @needs("convert", "PIL")
     def test_pillows_files(self):
@@ -828,21 +433,6 @@ class Harm(unittest.TestCase):
         self.assertEqual(reader_of(many)(stream, True).blocks, [])
         self.assertLess(stream.octets, 3 * len(many))
         self.too_much(SMALL_JPEG[:-2] + b"\xff\xe1\0\2" * 1001, "metadata segments after the first scan")
-
-    def test_values_that_are_read_again_and_again(self):
-        """400 pages with the same megabyte: as XMP it is a block, which is read once; as a text it is in the block of each page."""
-        for tag in (0x02BC, 0x010F):
-            value = b"<" * (1 << 20)
-            octets = bytearray(b"MM\0*" + struct.pack(">I", 8 + len(value)) + value)
-            for number in range(400):
-                following = len(octets) + 18 if number < 399 else 0
-                octets += struct.pack(">HHHIII", 1, tag, 2 if tag == 0x010F else 1, len(value), 8, following)
-            if tag == 0x02BC:
-                stream = Counting(bytes(octets))
-                self.assertEqual(len(reader_of(octets)(stream, True).blocks), 400)
-                self.assertLess(stream.octets, 2 * len(octets))
-            else:
-                self.too_much(bytes(octets), budgets.VALUE_BYTES, most=130 << 20)
 
 
 class Opened(WithPictures):

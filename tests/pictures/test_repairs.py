@@ -15,7 +15,7 @@ from exifnorm_pictures.model import steps
 from exifnorm_pictures.model.found import EXIF, FoundBlock
 from exifnorm_pictures.refusals import mend
 from made_blocks import ASCII, BLOCKS, LONG, MAKE, SHORT, entry, table
-from made_files import app1, chunk, exif, jpeg, page, png, tiff, webp
+from made_files import app1, chunk, exif, jpeg, png, webp
 from studio import needs, put
 
 RATIONAL = 5
@@ -127,29 +127,6 @@ def test_each_cause(golden):
     golden("repairs.txt", "\n".join(lines) + "\n")
 
 
-def test_a_copied_value_begins_at_a_word():
-    """As TIFF 6.0, section 2, asks, also behind a block of an odd length."""
-    places = [struct.unpack_from(">I", lossless(camera(shared=True) + bytes(more)).block, 10 + 4 * 12 + 8) for more in range(4)]
-    assert places == [(400,), (402,), (402,), (404,)]
-
-
-@pytest.mark.parametrize("place", (300, 320, 344, 380))
-def test_a_maker_note_stays_where_it_is(place):
-    """What is in it may count from the block's beginning. The value with which it shares bytes is copied, in whichever directory that is."""
-    note = struct.pack(">HHII", 0x927C, 7, 8, place)
-    made = lossless(camera().replace(struct.pack(">HHII", 0x9204, 10, 1, 364), note))
-    assert note in made.block and len(made.block) > 400 and fields_of(made)
-
-
-@pytest.mark.parametrize("count, is_repaired", [(100, True), (101, False)])
-def test_at_most_a_hundred_steps(count, is_repaired):
-    """Each of these entries stands twice."""
-    rows = [entry(0x0112, SHORT, 1, 1 << 16)] * (count + 1)
-    made = repairs.repaired(b"MM\0*\0\0\0\x08" + table(rows))
-    assert (made is not None) is is_repaired
-    assert made is None or len(made.steps) == count
-
-
 def outside(what):
     """A block that must grow to be accepted, since two texts are one; what lies behind its end would be found in what is appended."""
     rows, following, image = [entry(tag, ASCII, 8, 84) for tag in (0x010F, 0x0110)], 0, b""
@@ -214,15 +191,6 @@ def test_a_thumbnail_that_a_step_would_change():
     assert [key for _, key, _ in fields_of(made)] == ["010f", "0110"]
 
 
-def test_a_directory_that_covers_all_and_more():
-    """GPS counts 60,000 entries, so that each copy of the Exif directory would be in it again."""
-    rows = [entry(0x010F, ASCII, 8, 12), entry(0x8769, LONG, 1, 50), entry(0x8825, LONG, 1, 64)]
-    short = table([entry(0x9000, 7, 4, b"0232")])[:-4]
-    made = repairs.repaired(b"MM\0*\0\0\0\x08" + table(rows) + short + b"\xea\x60" + entry(0x0001, ASCII, 2, b"N\0\0\0"))
-    assert "entries" in steps.loses(made.steps) and len(made.steps) < 6
-    assert [key for _, key, _ in fields_of(made)] == ["010f", "9000", "0001"]
-
-
 @pytest.mark.parametrize("tag, name", [(0xA005, "Interoperability directory"), (None, "thumbnail directory")])
 def test_a_directory_that_cannot_be_one(tag, name):
     """Its pointer leads into other bytes. The rest of the block is read, but for an entry of a type that there isn't."""
@@ -232,25 +200,6 @@ def test_a_directory_that_cannot_be_one(tag, name):
     made = repairs.repaired((b"MM\0*\0\0\0\x08" + main + table(rows)).ljust(92, b"\0") + made_up)
     assert sorted(it.loses for it in made.steps) == ["a directory", "a value"] and name in steps.words(made.steps)
     assert [key for _, key, _ in fields_of(made)] == ["010f", "9000"]
-
-
-def test_a_hopeless_block_ends_soon(monkeypatch):
-    """More than a hundred entries of no type, or with values that aren't there: no step is tried for each."""
-    calls = []
-    normal = repairs.exifnorm.normal
-    monkeypatch.setattr(repairs.exifnorm, "normal", lambda block: calls.append(1) or normal(block))
-    for kind, elements, last in ((77, 1, 0), (ASCII, 9, 1 << 20)):
-        calls.clear()
-        assert repairs.repaired(b"MM\0*\0\0\0\x08" + table([entry(it, kind, elements, last) for it in range(1, 200)])) is None
-        assert len(calls) <= 2
-
-
-@pytest.mark.parametrize("length", range(0, 400, 7))
-def test_blocks_that_are_cut(length):
-    """A repair ends, and its result is accepted."""
-    for block in REFUSED.values():
-        made = repairs.repaired(block[:length])
-        assert made is None or repairs.repaired(made.block).steps == ()
 
 
 def test_which_repairs_make_pictures_the_same(folder, capsys, monkeypatch):
@@ -297,15 +246,6 @@ def test_the_rest_of_a_repaired_file_stays(kind, holder, name, piece, folder, mo
     assert (folder / "b").read_bytes() == holder(made.block) and done == made.steps
 
 
-def test_two_blocks_of_a_file_are_replaced(folder):
-    blocks = [REFUSED["unsorted"], REFUSED["all"]]
-    (folder / "a").write_bytes(jpeg(*map(app1, blocks)))
-    with open(folder / "a", "rb") as picture, open(folder / "b", "wb") as copy:
-        changes, _ = mend.changes(picture, "JPEG", [FoundBlock(EXIF, it, "Exif", "") for it in reversed(blocks)])
-        mend.write(picture, changes, copy)
-    assert (folder / "b").read_bytes() == jpeg(*(app1(repairs.repaired(it).block) for it in blocks))
-
-
 def test_a_block_that_is_not_found_once_is_not_replaced(folder):
     block = REFUSED["unsorted"]
     found = [FoundBlock(EXIF, block, "Exif", "")]
@@ -314,43 +254,6 @@ def test_a_block_that_is_not_found_once_is_not_replaced(folder):
         (folder / "a").write_bytes(octets)
         with open(folder / "a", "rb") as picture:
             assert mend.changes(picture, kind, found) is None
-
-
-def test_mend_without_exiftool(folder, capsys, monkeypatch):
-    """A repair that loses nothing needs no program."""
-    monkeypatch.chdir(folder)
-    monkeypatch.setenv("PATH", str(folder))
-    put(
-        folder,
-        {
-            "a.jpg": jpeg(app1(REFUSED["all"])),
-            "b.jpg": jpeg(app1(BLOCKS["Doubled"])),
-        },
-    )
-    assert main._run(["mend", "a.jpg", "out.jpg"]) == 0
-    assert main._run(["explain", "out.jpg"]) == 0
-    (folder / "c.tif").write_bytes(tiff(page((0x010F, ASCII, b"Maker\0"), (0x010F, ASCII, b"Maker\0"))))
-    capsys.readouterr()
-    for name, why in (("b.jpg", "loses"), ("c.tif", "TIFF")):
-        assert main._run(["mend", name, "other", "--json"]) == 2
-        found = json.loads(capsys.readouterr().out.splitlines()[0])
-        assert found["problem"] == "NeedsExifTool" and why in found["detail"] and "libimage-exiftool-perl" in found["detail"]
-        assert not os.path.exists("other")
-
-
-@needs("exiftool")
-def test_mend_of_a_jpeg_that_is_cut(folder, capsys, monkeypatch):
-    """Its block is mended, which moves the rest, and the rest stays as it is. The status says that this was not read."""
-    monkeypatch.chdir(folder)
-    for name in ("unsorted", "shared", "all"):
-        rest = b"\xff\xdb\0\x43\0cut"
-        (folder / "cut.jpg").write_bytes(b"\xff\xd8" + app1(REFUSED[name]) + rest)
-        assert main._run(["mend", "cut.jpg", f"{name}.jpg", "--json"]) == 2
-        found = json.loads(capsys.readouterr().out.splitlines()[0])
-        assert (
-            (found["step"], found["lost"], found["gained"]) == ("repair", [], []) and len(found["not_read"]) == 1 and found["damage"]
-        ), found
-        assert (folder / f"{name}.jpg").read_bytes() == b"\xff\xd8" + app1(repairs.repaired(REFUSED[name]).block) + rest
 
 
 @needs("exiftool")
@@ -372,14 +275,6 @@ def test_mend_compares_exact_numbers(folder):
         *lines,
         b"C : b",
     ], "values that aren't in pairs"
-
-
-def test_shown_fields_of_a_refused_block(folder, capsys, monkeypatch):
-    monkeypatch.chdir(folder)
-    (folder / "a.jpg").write_bytes(jpeg(app1(REFUSED["unsorted"])))
-    assert main._run(["show", "a.jpg"]) == 2
-    printed = capsys.readouterr().out
-    assert "entries sorted" in printed and "Model 7" in printed and "tested, and not proved" in printed
 
 
 def _with(octets, at, value):

@@ -176,15 +176,6 @@ def test_each_folder_without_pictures_is_named(folder, called):
     ]
 
 
-def test_a_rule_for_the_folder_that_was_indexed_itself(folder, called):
-    """It is about no picture, and the note has the folder below which rules name folders."""
-    put(folder / "work", {"a.jpg": picture([("title", "A")])})
-    (folder / "rules").write_text("title never in work/\n")
-    status, printed, _ = called("check", "--rules", "rules", "work", "--json")
-    (note,) = json.loads(printed.splitlines()[-1])["notes"]
-    assert status == 0 and str(folder / "work") in note
-
-
 def test_each_mistake_is_named(folder, called):
     """All mistakes of a file are told at once, each with its line and a mark below it."""
     put(folder / "p", {"a.jpg": jpeg()})
@@ -228,11 +219,6 @@ def test_files_that_are_no_rules(folder, called, octets):
     (folder / "rules").write_bytes(octets)
     status, printed, messages = called("check", "--rules", "rules", "p")
     assert (status, printed) == (3, "") and len(messages.splitlines()) == 1
-
-
-def test_missing_rules(folder, called):
-    put(folder / "p", {"a.jpg": jpeg()})
-    assert called("check", "--rules", "nothing", "p")[0] == 4
 
 
 AGREEMENT = {

@@ -13,14 +13,13 @@ import tracemalloc
 import hypothesis
 import hypothesis.strategies as st
 import pytest
-from made_blocks import BLOCKS
 from made_files import A, app1, app1_xmp, exif, jpeg, xmp
 from studio import Studio
 from test_groups import FILES, with_short_note
 from test_query_steps import SIZES, TIMES, make
 
 from exifnorm_pictures.catalogue import shards
-from exifnorm_pictures.catalogue.store import NUMBERS, VERSION, Catalogue
+from exifnorm_pictures.catalogue.store import NUMBERS, Catalogue
 from exifnorm_pictures.cli import main
 from exifnorm_pictures.scan.walk import How
 from exifnorm_pictures.scan import parts
@@ -218,24 +217,6 @@ def test_a_missing_catalogue_is_said(archive, called_lines):
     assert status == 4 and "none of its 2 catalogues is there" in messages
 
 
-def test_a_catalogue_that_is_not_listed_is_said(archive, called_lines):
-    shards.put_list(str(archive / "shards"), ["one.catalogue"])
-    (archive / "shards" / "notes.txt").write_text("no catalogue")
-    status, lines, messages = called_lines("list", "shards")
-    assert status == 2 and lines[-1].startswith("1 of 1 picture")
-    assert "without the catalogue shards/two.catalogue, which its list doesn't name" in messages and "notes" not in messages
-
-
-@pytest.mark.parametrize("count", (3, 4, 20_000))
-def test_of_many_missing_catalogues_three_are_named(archive, called_lines, count):
-    shards.put_list(str(archive / "shards"), ["one.catalogue", "two.catalogue", *(f"{number}.catalogue" for number in range(count))])
-    status, _, messages = called_lines("list", "shards")
-    more = ["1 more catalogue", "19,997 more catalogues"][count > 4]
-    notes = [f"the answer is without the catalogue shards/{number}.catalogue, which isn't there" for number in range(3)]
-    notes += [f"the answer is without {more}, not there either"] * (count > 3)
-    assert status == 2 and [it.partition("note: ")[2] for it in messages.splitlines()] == notes
-
-
 @pytest.mark.parametrize("line", ("{}.catalogue", "one.catalogue"))
 def test_names_of_a_list_are_not_in_memory(archive, line):
     """Those that a stranger has put there may be a million, of which none is there, or all are one catalogue."""
@@ -248,12 +229,6 @@ def test_names_of_a_list_are_not_in_memory(archive, line):
             assert tracemalloc.get_traced_memory()[1] < 2 * (archive / "shards" / "catalogues").stat().st_size + 50_000
         finally:
             tracemalloc.stop()
-
-
-def test_a_catalogue_that_is_listed_twice_is_read_once(archive, called_lines):
-    once = called_lines("list", "shards")
-    shards.put_list(str(archive / "shards"), ["one.catalogue", "two.catalogue", "one.catalogue", "./two.catalogue"])
-    assert called_lines("list", "shards") == once and once[0] == 0
 
 
 @pytest.mark.parametrize("way", ("../v", "sub/v", "{folder}/v", "link", "the list"))
@@ -294,16 +269,6 @@ def test_a_picture_in_two_catalogues_is_refused(archive, called_lines, are_apart
         assert "one/one.jpg is in " in messages and "shards/one.catalogue" in messages and "shards/two.catalogue" in messages
 
 
-def test_a_folder_is_one_of_pictures_unless_its_list_says_otherwise(archive, called_lines):
-    """A file of another kind with this name changes nothing, and neither does a folder."""
-    (archive / "one" / "catalogues").write_text("catalogues of one archive, which are sold out\n")
-    (archive / "two" / "catalogues").mkdir()
-    assert called_lines("changed", "one", "two", "--no-programs")[0] == 1
-    assert called_lines("list", "one")[1][-1] == called_lines("list", "two")[1][-1] == "1 of 1 picture"
-    status, _, messages = called_lines("same", "one")
-    assert status == 4 and "not a catalogue" in messages
-
-
 @pytest.mark.parametrize(
     "words, instead",
     [
@@ -322,21 +287,6 @@ def test_a_command_that_takes_one_catalogue_says_what_does_it(archive, called_li
     assert {it.name: it.read_bytes() for it in (archive / "shards").iterdir()} == before
 
 
-def test_history_is_that_of_the_merged_catalogues(archive, called_lines):
-    shutil.copytree("shards", "before")
-    (archive / "one" / "one.jpg").write_bytes(titled("new"))
-    assert called_lines("index", "one", "--catalogue", "shards/one.catalogue", "--quiet")[0] == 0
-    for name in ("before", "shards"):
-        assert called_lines("catalogue", "merge", name, "--catalogue", f"{name}-as-one")[0] == 0
-    status, lines, messages = called_lines("changed", "--picture", "one/one.jpg", "before", "shards")
-    assert (status, messages) == (1, "") and any("new" in line for line in lines), lines
-    merged_lines = called_lines("changed", "--picture", "one/one.jpg", "before-as-one", "shards-as-one")[1]
-    assert lines == [line.replace("-as-one", "") for line in merged_lines]
-    (archive / "shards" / "two.catalogue").unlink()
-    status, _, messages = called_lines("changed", "--picture", "one/one.jpg", "shards", "before")
-    assert status == 2 and "the answer is without the catalogue shards/two.catalogue" in messages
-
-
 def test_with_sidecars_and_without(archive, called_lines):
     (archive / "shards" / "two.catalogue").unlink()
     assert called_lines("index", "two", "--catalogue", "shards/two.catalogue", "--sidecars", "--quiet")[0] == 0
@@ -352,36 +302,6 @@ def test_a_list_replaces_a_list_alone(archive):
     with pytest.raises(Exception, match="file of another kind"):
         shards.put_list(str(archive / "other"), ["two.catalogue"])
     assert (archive / "other" / "catalogues").read_text() == "mine\n"
-
-
-def test_each_catalogue_keeps_its_texts(archive, called_lines):
-    """So that a second question reads the fields of no picture."""
-    assert called_lines("list", "shards", "--with", "title")[0] == 0
-    for name in ("one", "two"):
-        with Catalogue(str(archive / "shards" / f"{name}.catalogue")) as catalogue:
-            assert catalogue.prepared() == catalogue.greatest("pictures")
-
-
-@pytest.mark.parametrize("which", ([], ["one"], ["two"], ["one", "two"]))
-def test_texts_of_catalogues_that_cannot_be_written(archive, called_lines, which):
-    """Some have their texts, and those of the others are made for each question."""
-    for number, name in enumerate(("one", "two")):
-        (archive / name / "more.jpg").write_bytes(TITLED[f"t{number + 1}"])
-        assert called_lines("index", name, "--catalogue", f"shards/{name}.catalogue", "--quiet")[0] == 0
-    for name in which:
-        (archive / "shards" / f"{name}.catalogue").chmod(0o444)
-    for words, last in (
-        ("--columns title", "4 of 4 pictures"),
-        ("--where title=two", "1 of 4 pictures"),
-        ("--count title", "2 pictures with a text of title, 2 without"),
-        ("--with XMP-dc:title --with title", "2 of 4 pictures"),
-        ("--without title", "2 of 4 pictures"),
-    ):
-        status, lines, _ = called_lines("list", "shards", *words.split())
-        assert (status, lines[-1]) == (0, last), words
-    for name in ("one", "two"):
-        with Catalogue(str(archive / "shards" / f"{name}.catalogue")) as catalogue:
-            assert (catalogue.prepared() == catalogue.greatest("pictures")) == (name not in which)
 
 
 @pytest.mark.parametrize("count", (shards.MOST, shards.MOST + 2))
@@ -499,30 +419,6 @@ def rows(folder, name="shards"):
     return sorted(known, key=lambda row: row[1])
 
 
-def test_each_folder_has_a_catalogue(folders, called_lines):
-    status, lines, _ = called_lines("index", "p", "--shards", "shards")
-    assert (status, lines[0]) == (0, "5 accepted")
-    assert [name.split("-")[1] for name in names(folders)] == ["a", "b", "p"]
-    assert sorted(os.listdir(folders / "shards")) == sorted([".lock", "catalogues", *names(folders)])
-    assert called_lines("index", "p", "--catalogue", "all", "--quiet")[0] == 0
-    assert rows(folders) == rows(folders, "all"), "with the same folder, by which rules and names are relative"
-    for number, name in enumerate(names(folders)):
-        with Catalogue(str(folders / "shards" / name)) as catalogue:
-            assert all(number * NUMBERS < it.id < (number + 1) * NUMBERS for it in catalogue.pictures())
-
-
-def test_a_second_run_looks_at_what_is_new(folders, called_lines):
-    called_lines("index", "p", "--shards", "shards", "--quiet")
-    before = names(folders)
-    (folders / "p" / "0").mkdir()
-    (folders / "p" / "0" / "6.jpg").write_bytes(picture(6))
-    (folders / "p" / "b" / "3.jpg").write_bytes(picture(7))
-    (folders / "p" / "5.jpg").unlink()
-    status, lines, _ = called_lines("index", "p", "--shards", "shards")
-    assert (status, lines[1]) == (0, "3 unchanged, 2 accepted, 1 gone since an earlier run")
-    assert names(folders)[:3] == before and names(folders)[3].startswith("00003-0-"), "each folder keeps its catalogue"
-
-
 def test_a_folder_that_is_gone_forgets_nothing(folders, called_lines):
     called_lines("index", "p", "--shards", "shards", "--quiet")
     before = rows(folders)
@@ -575,57 +471,6 @@ def test_one_of_the_folders(folders, called_lines):
         assert (status, lines) == (3, []) and "have pictures in common" in messages, words
 
 
-def test_the_folder_as_a_catalogue(folders, called_lines):
-    """Once it is there it is given as one, as for all commands."""
-    called_lines("index", "p", "--shards", "shards", "--quiet")
-    (folders / "p" / "b" / "6.jpg").write_bytes(picture(6))
-    assert called_lines("index", "shards", "p")[1][0] == "5 unchanged, 1 accepted"
-    assert called_lines("index", "p", "--catalogue", "shards")[1][0] == "6 unchanged"
-
-
-def test_of_several_folders(folders, called_lines):
-    """Those of which only one is given are left as they are, whether they are there or not."""
-    (folders / "q" / "a").mkdir(parents=True)
-    (folders / "q" / "a" / "8.jpg").write_bytes(picture(8))
-    assert called_lines("index", "p", "q", "--shards", "shards")[1][0] == "6 accepted"
-    assert len({name.split("-")[2] for name in names(folders)}) == 4, "two folders are called a"
-    (folders / "q").rename(folders / "unmounted")
-    assert called_lines("index", "p", "--shards", "shards")[:2] == (0, called_lines("index", "p", "--shards", "shards")[1])
-    status, lines, _ = called_lines("index", "p", "q", "--shards", "shards")
-    assert status == 2 and lines[0].startswith("q/a: Unreadable")
-
-
-def test_names_that_are_no_utf_8(folders, called_lines):
-    os.mkdir(os.fsencode(folders / "p") + b"/\xff\n")
-    with open(os.fsencode(folders / "p") + b"/\xff\n/x.jpg", "wb") as file:
-        file.write(picture(9))
-    assert called_lines("index", "p", "--shards", "shards")[1][0] == "6 accepted"
-    assert called_lines("index", "p", "--shards", "shards")[1][0] == "6 unchanged"
-    assert called_lines("list", "shards")[1][-1] == "6 of 6 pictures"
-
-
-def test_what_is_excluded(folders, called_lines):
-    called_lines("index", "p", "--shards", "shards", "--quiet")
-    words = ("--exclude", "b", "--exclude", "deep", "--exclude", "nothing", "--exclude", "5.jpg")
-    status, lines, messages = called_lines("index", "p", "--shards", "shards", *words)
-    one = called_lines("index", "p", "--catalogue", "all", *words)[1][0]
-    assert (status, lines[0]) == (0, "3 excluded, 1 unchanged") and one == "3 excluded, 1 accepted"
-    assert "--exclude nothing fits no file" in messages and messages.count("note") == 1
-    assert rows(folders) != rows(folders, "all") and len(rows(folders)) == 5, "what was known stays"
-
-
-def test_sidecars_and_pixels_go_on(folders, called_lines):
-    called_lines("index", "p", "--shards", "shards", "--quiet", "--pixels", "--sidecars")
-    (folders / "p" / "c").mkdir()
-    (folders / "p" / "c" / "6.jpg").write_bytes(picture(6))
-    assert called_lines("index", "p", "--shards", "shards", "--quiet")[0] == 0
-    with Catalogue(str(folders / "shards" / names(folders)[-1])) as catalogue:
-        assert catalogue.has_sidecars() and next(catalogue.pictures()).coded_picture is not None
-    called_lines("index", "p", "--shards", "without", "--quiet")
-    status, _, messages = called_lines("index", "p", "--shards", "without", "--sidecars")
-    assert status == 3 and "was made without --sidecars" in messages
-
-
 def test_what_is_wrong(folders, called_lines, capsys):
     (folders / "full").mkdir()
     (folders / "full" / "file").write_bytes(b"")
@@ -648,15 +493,6 @@ def test_what_is_wrong(folders, called_lines, capsys):
     called_lines("index", "p", "--shards", "shards")
     status, _, messages = called_lines("index", "p", "--catalogue", "shards", "--keep-old", "old")
     assert status == 3 and "--keep-old" in messages and "shards is a folder" in messages
-
-
-def test_counts_and_next_steps(folders, called_lines):
-    (folders / "p" / "a" / "bad.jpg").write_bytes(jpeg(app1(BLOCKS["Overlap"])))
-    (folders / "p" / "b" / "cut.jpg").write_bytes(picture(4)[:-9])
-    lines = called_lines("index", "p", "--shards", "shards")[1]
-    assert any(line.endswith("1 cut off or damaged") for line in lines), lines
-    assert "refused or unreadable: exifnorm-pictures report shards --html report/" in lines[-1]
-    assert called_lines("same", "shards")[0] == 0
 
 
 # Several runs
@@ -700,16 +536,6 @@ def test_a_file_system_without_locks_is_named(folders, called_lines, monkeypatch
         status, _, messages = called_lines(*words.split())
         assert (status, f"{name}: its file system has no POSIX locks" in messages) == (4, True), messages
     assert list(shards.listed(str(folders / "shards"))) == []
-
-
-def test_a_folder_of_an_earlier_version_is_named(folders, called_lines):
-    called_lines("index", "p", "--shards", "shards")
-    with open(folders / "shards" / list(shards.listed(str(folders / "shards")))[0], "r+b") as file:
-        file.seek(63)
-        file.write(bytes([VERSION - 1]))
-    for words in (("index", "p", "--shards", "shards"), ("same", "shards")):
-        status, _, messages = called_lines(*words)
-        assert (status, "earlier release" in messages, "--shards NEW" in messages) == (4, True, True), messages
 
 
 def test_two_processes_at_one_part_lose_nothing(folders):

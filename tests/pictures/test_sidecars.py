@@ -51,13 +51,6 @@ def test_which_picture_has_which_sidecars(names, expected):
     assert {os.fsdecode(it) for it in folder.files} == {one for files in expected.values() for one in files}
 
 
-def test_names_of_blocks():
-    """They don't have the picture's own name, so that a picture that gets another one is compared."""
-    folder = sidecars.Folder([b"a.jpg", b"a.jpg.xmp", b"a.xmp", b"a_01.jpg.xmp", b"a_12.jpg.xmp"])
-    found = ["XMP sidecar", "second XMP sidecar", "XMP sidecar of version 1", "XMP sidecar of version 12"]
-    assert [it.block for it in folder.of(b"a.jpg")] == found
-
-
 @pytest.mark.parametrize("is_racy", [True, False])
 def test_a_sidecar_that_may_be_edited_again(folder, is_racy):
     """By its times, where an edit could leave them: it gets a mark that differs, so the next run reads it again, and it is still recognised."""
@@ -68,13 +61,6 @@ def test_a_sidecar_that_may_be_edited_again(folder, is_racy):
     assert asked == [(now.st_mtime_ns, now.st_ctime_ns)]
     assert (found != sidecars.marks(path, own)) is is_racy
     assert sidecars.Folders().is_marked_as(path, found)
-
-
-def test_a_file_by_itself(folder, results):
-    head = b"\xef\xbb\xbf<?xml version='1.0'?>\n<!-- a - comment -->\n"
-    put(folder / "b", {"a.xmp": ONE, "c.XMP": head + title("one").partition(b"?>")[2]})
-    put(folder / "a", {"a.xmp": ONE + b"  ", "c.XMP": OTHER})
-    assert results("b", "a") == (1, {"c.XMP": "different"})
 
 
 @pytest.mark.parametrize("octets", [b"", b"<svg/>", b"no XML", b"<?" * 1000, b"<!--" * 500, ONE.decode().encode("utf-16")])
@@ -133,24 +119,6 @@ def test_two_folders(name, folder, results):
     assert results("b", "a", "--sidecars") == expected
 
 
-def test_a_moved_picture_with_another_sidecar(folder, results):
-    """The same file by its marks, beside which the sidecar isn't any more."""
-    put_equal(folder)
-    (folder / "a" / "new").mkdir()
-    os.rename(folder / "a" / "y.jpg", folder / "a" / "new" / "y.jpg")
-    os.remove(folder / "b" / "y.jpg")
-    os.link(folder / "a" / "new" / "y.jpg", folder / "b" / "y.jpg")
-    status, found = results("b", "a", "--sidecars")
-    assert (status, found["y.jpg"]) == (1, "missing after"), found
-
-
-def test_a_sidecar_that_cannot_be_read(folder, results):
-    put_equal(folder, {"y.xmp": None}, {"y.xmp": None})
-    for side in ("b", "a"):
-        os.mkfifo(folder / side / "y.xmp")
-    assert results("b", "a", "--sidecars") == (2, {"y.jpg": "not wholly read"})
-
-
 class TestCatalogue:
     """A catalogue goes on as it was begun."""
 
@@ -173,25 +141,6 @@ class TestCatalogue:
         now = os.stat(self.folder / "p" / name)
         write(self.folder / "p" / name, octets)
         os.utime(self.folder / "p" / name, ns=(now.st_atime_ns, now.st_mtime_ns))
-
-    def test_an_edited_sidecar_is_noticed(self, called_lines):
-        assert self.groups(called_lines) == [["x.jpg", "y.jpg"]]
-        self.edit("y.xmp", OTHER)
-        assert len(OTHER) == len(ONE)
-        assert self.groups(called_lines) == [], "the sidecar isn't as it was indexed"
-        assert called_lines("index", "p", "--catalogue", "c", "--quiet")[1] == ["2 unchanged, 1 accepted"]
-        assert self.groups(called_lines) == []
-        self.edit("y.xmp", ONE)
-        assert called_lines("index", "p", "--catalogue", "c", "--quiet")[1] == ["2 unchanged, 1 accepted"]
-        assert self.groups(called_lines) == [["x.jpg", "y.jpg"]]
-
-    def test_a_sidecar_that_comes_or_goes(self, called_lines):
-        os.remove(self.folder / "p" / "y.xmp")
-        assert self.groups(called_lines) == []
-        assert called_lines("index", "p", "--catalogue", "c", "--quiet")[1] == ["2 unchanged, 1 accepted"]
-        write(self.folder / "p" / "y.jpg.xmp", ONE)
-        assert called_lines("index", "p", "--catalogue", "c", "--quiet")[1] == ["2 unchanged, 1 accepted"]
-        assert self.groups(called_lines) == [["x.jpg", "y.jpg"]]
 
     def test_a_file_by_itself_that_becomes_a_sidecar(self, called_lines):
         write(self.folder / "p" / "z.jpg", PICTURE)
@@ -240,18 +189,6 @@ def test_the_bytes_of_all_sidecars_are_limited(tmp_path):
     most = LIMITS[XMP_BYTES] // PACKET_BYTES
     assert (len(blocks.blocks), len(blocks.not_read)) == (most, 11 - most)
     assert not any(it.digest for it in blocks.not_read)
-
-
-def test_sidecars_whose_names_differ_only_in_capital_letters():
-    """Each belongs to each picture of that name in any letters: only so many are read, and the work isn't their product."""
-    names = ["".join(it) for it in itertools.islice(itertools.product(*({one, one.upper()} for one in sorted("abcdefghijk"))), 2000)]
-    pictures = [f"{it}.jpg".encode() for it in names]
-    folder = sidecars.Folder([*pictures, *(f"{it}.xmp".encode() for it in names)])
-    assert len(folder.files) == len(names)
-    for picture in pictures[:3]:
-        *read, further = folder.of(picture)
-        assert len(read) == sidecars.MOST and further == sidecars.Sidecar(f"{len(names) - sidecars.MOST:,} further XMP sidecars", b"")
-    assert sum(map(len, folder._of.values())) <= 2 * sidecars.MOST
 
 
 def test_a_picture_with_more_sidecars_than_are_read_is_never_the_same(called, folder):

@@ -6,13 +6,15 @@ import shutil
 import pytest
 from made_blocks import BLOCKS
 from made_files import A, B, app1, app1_xmp, app13, jpeg, resource, xmp
-from studio import needs, put
+from studio import needs, put, sql_rows
 from test_list import record
 from test_nightly import CUT
 from test_repairs import REFUSED
 
 from exifnorm_pictures.cli.parser import parsers
 from exifnorm_pictures.cli.topics import STATUSES
+from exifnorm_pictures.model.found import UNREAD_TRAILER
+from exifnorm_pictures.scan import index
 
 CELLS = {(command, status) for command, texts in STATUSES.items() for status in texts}
 
@@ -127,3 +129,33 @@ def test_bad_arguments_and_a_file_that_is_no_catalogue(command, folder, called):
     for line in lines:
         if re.search(r"\bc\b", line.replace("copy", "")):
             assert called(*line.split())[0] in (3, 4), line
+
+
+@pytest.mark.parametrize("names", [("p", "q"), ("q", "p")])
+def test_a_mistyped_name_for_changed(called, folder, names):
+    (folder / "p").mkdir()
+    status, _, message = called("changed", *names)
+    assert status == 4 and "no folder or catalogue q" in message
+
+
+@pytest.mark.parametrize("name", ["text", "missing", "v99", "p", "all"])
+def test_no_catalogue_beside_one_adds_nothing(called, folder, indexed, name):
+    """To the one into which they are merged, and of which it is said."""
+    indexed({"a.jpg": GOOD})
+    shutil.copy("c", "all")
+    shutil.copy("c", "v99")
+    sql_rows("v99", "PRAGMA user_version = 99")
+    put(folder, {"text": b"a text\n", "q/b.jpg": OTHER})
+    called("index", "q", "--catalogue", "d", "--quiet")
+    before = sql_rows("all", "SELECT * FROM pictures")
+    status, _, message = called("catalogue", "merge", "d", name, "--catalogue", "all")
+    assert (status, message.count("\n"), sql_rows("all", "SELECT * FROM pictures")) == (4, 1, before)
+
+
+@pytest.mark.parametrize("is_there", [True, False])
+def test_what_a_missing_program_left_is_read_once_it_is_there(called_lines, indexed, monkeypatch, is_there):
+    indexed({"a.jpg": GOOD})
+    sql_rows("c", "UPDATE pictures SET not_read = NULL")
+    sql_rows("c", "INSERT INTO not_read SELECT id, 0, ?, '' FROM pictures", UNREAD_TRAILER)
+    monkeypatch.setattr(index.programs, "is_there", lambda _: is_there)
+    assert called_lines("index", "p", "--catalogue", "c", "--quiet")[1] == ["1 accepted" if is_there else "1 unchanged"]

@@ -15,10 +15,6 @@ from studio import WithPictures
 from exifnorm_pictures.catalogue import store
 from exifnorm_pictures.catalogue.store import VERSION, Catalogue, NoCatalogue
 from exifnorm_pictures.comparison.changed import states as changed, pairs as pairing
-from exifnorm_pictures.comparison.same import groups
-from exifnorm_pictures.comparison.wording import bare
-from exifnorm_pictures.comparison.same.group import sentence_of
-from exifnorm_pictures.comparison.same.groups import Groups
 from exifnorm_pictures.judge import judge
 from exifnorm_pictures.fields.field import Field
 from exifnorm_pictures.fields.listing import numbers_text
@@ -26,8 +22,6 @@ from exifnorm_pictures.fields.packing import packed
 from exifnorm_pictures.files.session import Session
 from exifnorm_pictures.model.found import EXIF, IPTC, NAMES, XMP, NotRead
 from exifnorm_pictures.model.records import PICTURES, BlockRecord, PictureRecord, Stamp
-from exifnorm_pictures.report import contents, lists
-from exifnorm_pictures.report.changes import Changes
 from exifnorm_pictures.scan import looking
 from exifnorm_pictures.scan.walk import How
 from exifnorm_pictures.scan.looking import look
@@ -179,48 +173,6 @@ class Tables(WithPictures):
         self.assertEqual(found, {**moves, **gone, **came})
         self.assertEqual(counts, {"same": 1, "moved": 4, "missing after": 4, "missing before": 4})
 
-    def test_the_same_file_comes_before_the_same_meaning(self):
-        before = [picture("a/p", {EXIF: "1"}, number=1), picture("b/p", {EXIF: "1"}, number=1).stamped(Stamp(1, 2, 2, 2))]
-        after = [picture("c/p", {EXIF: "1"}, number=1).stamped(Stamp(1, 2, 2, 2)), picture("d/p", {EXIF: "1"}, number=1)]
-        self.assertEqual(self.compared(before, after)[0], {"a/p": "d/p", "b/p": "c/p"})
-        after = [picture("a/q", {EXIF: "1"}, number=1), picture("c/p", {EXIF: "1"}).stamped(Stamp(1, 7, 7, 7))]
-        self.assertEqual(self.compared(before[:1], after)[0], {"a/p": "a/q", "c/p": "missing before"})
-
-    def test_the_same_name_comes_before_another_of_the_same_bytes(self):
-        before = [picture(name, {EXIF: "1"}).stamped(Stamp(1, number, 0, number)) for number, name in enumerate(("a/p", "b/q"))]
-        after = [picture(name, {EXIF: "1"}).stamped(Stamp(1, number, 0, number)) for number, name in ((7, "c/q"), (8, "d/p"))]
-        before, after = ([one._replace(sha256="1" * 64) for one in pictures] for pictures in (before, after))
-        self.assertEqual(self.compared(before, after)[0], {"a/p": "d/p", "b/q": "c/q"})
-
-    def test_paths_of_several_folders(self):
-        """Where a catalogue has more than one folder, whole paths are compared."""
-        before = [picture("a"), picture("b", root="/b")]
-        self.assertEqual(self.compared(before, before)[1], {"same": 2})
-        self.assertEqual(
-            self.compared(before, [picture("a"), picture("c", {EXIF: "c"}, root="/c")])[1],
-            {"same": 1, "missing after": 1, "missing before": 1},
-        )
-        for one, other, counts in (
-            (before, [picture("a", {EXIF: "c"}, number=77, root="/other")], {"missing after": 2, "missing before": 1}),
-            ([picture("a", {EXIF: "c"}, number=77, root="/other")], before, {"missing after": 1, "missing before": 2}),
-        ):
-            self.assertEqual(self.compared(one, other)[1], counts)
-        self.assertEqual(self.compared([picture("a", root="/")], [picture("a", root="/x")])[1], {"same": 1})
-        self.assertEqual(self.compared([], [picture("a")])[1], {"missing before": 1})
-        odd = [picture("a\udcff'\n;", root="/\udc80 x'")]
-        self.assertEqual(self.compared(odd, [picture("a\udcff'\n;", root="/other")])[1], {"same": 1})
-
-    def test_all_is_read_of_one_moment(self):
-        """What others write meanwhile counts in the next comparison."""
-        sides = [self.catalogue(name, picture("p", number=1)) for name in ("before", "after")]
-        with contextlib.closing(pairing.Pairs(*sides)) as pairs:
-            for it in sides:
-                it.base.execute("UPDATE pictures SET exif = ?", (it.name,))
-                it.put(1, [picture("new", number=2)])
-            self.assertEqual((list(pairs.differing()), list(pairs.came()), pairs.count()), ([], [], 1))
-        with contextlib.closing(pairing.Pairs(*sides)) as pairs:
-            self.assertEqual(([it.name for it in pairs.differing()], list(pairs.came()), pairs.count()), ([b"p"], [], 2))
-
     def test_an_error_of_sqlite_while_rows_are_paired(self):
         """It names both catalogues, as either may be damaged."""
         sides = [self.catalogue(name, picture("p", {EXIF: name})) for name in ("before", "after")]
@@ -234,190 +186,6 @@ class Tables(WithPictures):
                 pairs.base.execute(f"DROP TABLE main.{table}")
                 with self.assertRaisesRegex(NoCatalogue, rf"^{names}: no such table: (main\.)?{table}$"):
                     call(pairs)
-
-    def test_groups_and_what_is_in_none(self):
-        made = self.catalogue(
-            "c",
-            *(picture(it) for it in "abc"),
-            *(picture(it, {**BASE, XMP: "other"}) for it in "de"),
-            picture("f", {**BASE, IPTC: "!DataSetCut"}),
-            picture("g", parts=[UNKNOWN]),
-            picture("h", parts=[UNKNOWN]),
-            picture("i", parts=[KNOWN]),
-            picture("j", parts=[KNOWN]),
-            picture("k", parts=[OTHER]),
-            picture("l", {}),
-            picture("m", {}),
-            picture("n", problem="NoPicture"),
-            picture("o", problem="Vanished"),
-        )
-        found = [[os.path.basename(it).decode() for it in one.pictures()] for one in Groups(made, look=False).by_meaning()]
-        self.assertEqual(found, [["a", "b", "c"], ["d", "e"], ["i", "j"]])
-        self.assertEqual(groups.totals(made), (3, 7))
-        self.assertEqual(groups.left_out(made), 3)
-        self.assertEqual(groups.left_out(made, (EXIF,)), 2)
-        self.assertEqual(
-            [sentence_of(it) for it in Groups(made, look=False).by_meaning((EXIF, IPTC))][0], "Exif and IPTC are the same byte for byte"
-        )
-
-
-def with_fields(kind, name, text, fields, by="own"):
-    """An accepted block with these fields, by this program."""
-    return block_of(kind, text)._replace(name=name, extractor=by, fields=packed(fields).octets)
-
-
-def make(text):
-    return Field("main", "010f", "ASCII", len(text), text.encode())
-
-
-def note(text):
-    return Field("exif", "927c", "UNDEFINED", len(text), text.encode())
-
-
-class Details(WithPictures):
-    """All that is known of a picture that was compared."""
-
-    catalogue = Tables.catalogue
-    maxDiff = None
-
-    def compared(self, before, after):
-        """The result, note and fields of one picture with these blocks, and the results of its kinds."""
-        number = len(os.listdir(self.folder))
-        sides = []
-        for name, blocks in (("before", before), ("after", after)):
-            it = blocks if isinstance(blocks, PictureRecord) else with_blocks(picture("p", number=1), blocks)
-            by = "own" if isinstance(blocks, PictureRecord) or all(one.extractor == "own" for one in it.blocks) else "exiftool"
-            sides.append(self.catalogue(f"{name}{number}", (it if name == "before" else written_since(it))._replace(extractor=by)))
-        (found,) = changed.changed(*sides, Counter(), every=True)
-        return (
-            found.result,
-            found.note,
-            [(it.name, bare(it.before), bare(it.after)) for it in found.changes],
-            [it.result for it in found.verdicts],
-        )
-
-    def test_programs_that_extracted_blocks(self):
-        one, two = with_fields(EXIF, "Exif", "a", [make("a")], "exiv2"), with_fields(IPTC, "IPTC", "b", [make("b")], "exiftool")
-        own, other = with_fields(EXIF, "Exif", "a", [make("a")]), with_fields(IPTC, "IPTC", "c", [make("c")])
-        for before, after, expected in (
-            ([own, two], [own, two], "; extracted by ExifTool"),
-            ([one, two], [own], "; extracted by ExifTool; extracted by exiv2; no IPTC after"),
-            ([own], [one], "; extracted by exiv2"),
-            ([own, other], [own, other], ""),
-            ([own, other], [own, two], "; extracted by ExifTool"),
-        ):
-            result, found, _, _ = self.compared(before, after)
-            self.assertEqual("; ".join(["", *found.split("; ")[1:]]) if "; " in found else "", expected, (before, after))
-
-    def test_fields_of_several_blocks(self):
-        first, second = with_fields(EXIF, "Exif", "a", [make("a"), make("z")]), with_fields(EXIF, "second Exif", "b", [make("b")])
-        other = with_fields(EXIF, "second Exif", "c", [make("c"), note("1")])
-        self.assertEqual(
-            self.compared([first, second], [first, other]),
-            (
-                "different",
-                "Exif is different, no IPTC and no XMP",
-                [("IFD0:Make (second Exif)", '"b"', '"c"'), ("ExifIFD:MakerNote (second Exif)", None, 'undefined[1] "1"')],
-                ["different", "absent", "absent"],
-            ),
-        )
-        self.assertEqual(
-            self.compared([first], [first, second]),
-            (
-                "different",
-                "Exif is different, no IPTC and no XMP; no second Exif before",
-                [("IFD0:Make (second Exif)", None, '"b"')],
-                ["different", "absent", "absent"],
-            ),
-        )
-        self.assertEqual(
-            self.compared([first, second], [first])[:3],
-            ("different", "Exif is different, no IPTC and no XMP; no second Exif after", [("IFD0:Make (second Exif)", '"b"', None)]),
-        )
-
-    def test_only_the_maker_note(self):
-        """Of Exif alone, and if nothing else differs."""
-
-        def exif(text, *fields):
-            return with_fields(EXIF, "Exif", text, fields)
-
-        record, other = with_fields(IPTC, "IPTC", "b", [make("b")]), with_fields(IPTC, "IPTC", "c", [make("c")])
-        one, two, three = exif("1", make("a"), note("1")), exif("2", make("a"), note("2")), exif("3", make("b"), note("2"))
-        second, another = (with_fields(EXIF, "second Exif", text, [note(text)]) for text in "xy")
-        only, different = "only MakerNote differs", "different"
-        for before, after, expected in (
-            ([one], [two], only),
-            ([one, record], [two, record], only),
-            ([one], [three], different),
-            ([one, record], [two, other], different),
-            ([one], [exif("4", make("a"))], only),
-            ([one, record], [two], different),
-            ([one], [], different),
-            ([exif("5", make("a"))], [exif("6", make("a"))], different),
-            ([one, record], [two, block_of(IPTC, "!DataSetCut")], only),
-            ([one, second], [three, another], different),
-        ):
-            self.assertEqual(self.compared(before, after)[0], expected, (before, after))
-        refused = "Exif is different, IPTC is refused, no XMP; IPTC: before accepted, after DataSetCut at 7"
-        self.assertEqual(self.compared([one, record], [two, block_of(IPTC, "!DataSetCut")])[1], refused)
-
-    def test_refused_blocks(self):
-        bad, worse, good = (
-            block_of(EXIF, "!Overlap"),
-            block_of(EXIF, "!Doubled")._replace(place=None),
-            with_fields(EXIF, "Exif", "a", [make("a")]),
-        )
-        for before, after, expected in (
-            ([bad], [worse], "Exif is refused, no IPTC and no XMP; Exif: before Overlap at 7, after Doubled"),
-            ([bad], [bad], "Exif is refused, the same bytes, no IPTC and no XMP; Exif: Overlap at 7"),
-            ([good], [bad], "Exif is refused, no IPTC and no XMP; Exif: before accepted, after Overlap at 7"),
-            ([], [bad], "Exif is refused, no IPTC and no XMP; Exif: after Overlap at 7"),
-            ([bad], [], "Exif is refused, no IPTC and no XMP; Exif: before Overlap at 7"),
-        ):
-            self.assertEqual(self.compared(before, after)[1], expected)
-
-    def test_files_with_a_problem(self):
-        none, bad, good = picture("p", problem="NoPicture"), picture("p", problem="Unreadable"), picture("p")
-        for before, after, expected in (
-            (none, none, ("not read", "no picture")),
-            (none, bad, ("not read", "before: NoPicture, after: Unreadable")),
-            (good, bad, ("not read", "after: Unreadable")),
-            (bad, good, ("not read", "before: Unreadable")),
-            (bad, bad, ("not read", "Unreadable")),
-        ):
-            self.assertEqual(self.compared(before, after), (*expected, [], []))
-
-
-class Reported(WithPictures):
-    """A report of two catalogues, as wholes."""
-
-    catalogue = Tables.catalogue
-    maxDiff = None
-
-    def test_results_of_a_library_without_proofs(self):
-        made = self.catalogue("now", picture("a"))
-        for version, unproved in (("1.0.0", []), ("1.0.0-unproved", ["1.0.0-unproved"])):
-            made.set_version(1, version)
-            made.end_run(1, "2000-01-01T00:00:09Z")
-            self.assertEqual(contents.unproved(made.runs()), unproved)
-
-    def test_the_order_of_lists(self):
-        """Files that can't be read come before those that are no pictures, what is in many pictures before what is in few."""
-        rows = [picture(f"n{it}", problem="NoPicture") for it in range(3)] + [picture(f"u{it}", problem="Unreadable") for it in range(3)]
-        rows += [picture(f"o{it}", {EXIF: "!Overlap"}) for it in range(3)] + [
-            picture(f"g{it}{more}", {EXIF: f"g{it}"}) for it in range(3) for more in "abc"[: it + 1]
-        ]
-        old = [picture(f"g{it}{more}", {EXIF: f"old{it}"}) for it in range(3) for more in "abc"[: it + 1]]
-        about = contents.About(self.catalogue("many", *rows), self.catalogue("before", *old), look=False)
-        self.assertEqual([it.data.path[-2:] for it in lists.problems(about)], [b"u0", b"u1", b"u2", b"n0", b"n1", b"n2"])
-        self.assertEqual([it.data["block"].path for it in lists.refusals(about, lists.counts_of(about))], [b"/a/o0", b"/a/o1", b"/a/o2"])
-        groups = [[path for path, _ in it.data["pictures"]] for it in lists.same(about, lists.Counts())]
-        self.assertEqual(groups, [[b"/a/g2a", b"/a/g2b", b"/a/g2c"], [b"/a/g1a", b"/a/g1b"], [b"/a/o0", b"/a/o1", b"/a/o2"]])
-        with contextlib.closing(Changes(about)) as changes:
-            found = [(it.data.result, [one.name for one in it.data.pictures]) for it in changes.entries()]
-        self.assertEqual(
-            [names for result, names in found if result == "different"], [[b"g2a", b"g2b", b"g2c"], [b"g1a", b"g1b"], [b"g0a"]]
-        )
 
 
 class File(WithPictures):

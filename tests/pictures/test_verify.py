@@ -127,29 +127,6 @@ def test_metadata_that_rotted(archive, verified, monkeypatch):
     assert status == 1 and states == {"a.jpg": ("DAMAGED", "in its metadata")}
 
 
-def test_other_formats(archive, verified):
-    """Of formats without a digest of the picture the bytes of the file count."""
-    written(archive / "c.gif", gif() + b"x", True)
-    written(archive / "d.txt", b"other text")
-    assert verified()[1] == {"c.gif": ("other file", None), "d.txt": ("other file", None)}
-    written(archive / "c.gif", gif().replace(b"GIF89a", b"GIF87a"), True)
-    assert verified()[1]["c.gif"] == ("DAMAGED", SAME_TIME)
-
-
-def test_folders_and_catalogues(archive, called, verified):
-    put(archive / "sub", {"new.jpg": CAPTIONED})
-    status, states, (summary,) = verified()
-    assert (status, states, summary["new"], summary["files"]) == (0, {}, 1, 5)
-    (archive / "a.jpg").unlink()
-    assert verified("p/sub")[0] == 0  # what isn't below the folder isn't asked
-    assert called("verify", "c", "nothing")[0] == 3
-    archive.rename(archive.parent / "unmounted")
-    status, printed, messages = called("verify", "c")
-    assert (status, printed) == (3, "") and "is its file system mounted?" in messages
-    called("index", "unmounted", "--catalogue", "plain", "--quiet")
-    assert "without a digest" in called("verify", "plain")[1] and called("verify", "plain")[0] == 2
-
-
 def test_evidence(archive, called):
     """sha256sum reads it, also of names with a line end, a backslash and no UTF-8, and it replaces no file."""
     for name in (b"line\nend.jpg", b"back\\slash.jpg", b"\xff.jpg", b" blank .jpg"):
@@ -255,55 +232,6 @@ def test_what_happens_to_a_sidecar(name, folder, called, verified):
     assert (found, states) == (status, {"a.xmp": state} if state else {})
     assert (summary["new"], summary["files"]) == (0, 5 - (name == "gone"))
     assert subprocess.run(["sha256sum", "--quiet", "-c", "e"]).returncode == 0
-
-
-def test_a_picture_with_a_sidecar_that_was_written_again(folder, verified, indexed):
-    """Its own metadata count."""
-    indexed({"a.jpg": PICTURE, "a.xmp": SIDECAR, "b.jpg": PICTURE, "b.xmp": SIDECAR}, "--pixels", "--sidecars")
-    put(folder, {"p/a.jpg": jpeg(app1(A + b"\0\0")), "p/b.jpg": CAPTIONED})
-    assert verified()[:2] == (0, {"a.jpg": ("written again", None), "b.jpg": ("captioned", None)})
-
-
-def test_a_picture_that_was_damaged_before(archive, called):
-    """It is as it was, and is counted apart from what has happened since, also if it moved."""
-    written(archive / "a.jpg", PICTURE[:-20])
-    written(archive / "moved.jpg", PICTURE[:-9])
-    called("index", "p", "--catalogue", "c", "--quiet")
-    assert counted(called) == (0, 2, {"as they were": 5})
-    (archive / "moved.jpg").rename(archive / "new.jpg")
-    assert counted(called) == (0, 2, {"as they were": 4, "moved": 1})
-    status, printed, _ = called("verify", "c")
-    assert status == 0 and re.search(r"2 of these were already damaged before.*\n +p/a.jpg \(the file ends", printed), printed
-    (archive / "new.jpg").unlink()
-    called("catalogue", "forget", "c", "p/moved.jpg")
-    (archive / "b.jpg").write_bytes((PICTURE + b"trailer")[: len(PICTURE) // 2])
-    status, printed, _ = called("verify", "c", "--list", "damaged")
-    names = [line.partition(":")[0] for line in printed.splitlines() if line.startswith("p/")]
-    assert (status, names) == (1, ["p/a.jpg", "p/b.jpg"]), printed
-
-
-def counted(called):
-    """The status of verify, the files that were damaged before, and the states of all."""
-    status, printed, _ = called("verify", "c", "--json")
-    summary = json.loads(printed.splitlines()[-1])
-    return status, summary["damaged_before"], summary["counts"]
-
-
-def test_all_damaged_files_are_listed(archive, called):
-    """Without --list the first ones are, and two dots."""
-    put(archive, {f"{number}.jpg": PICTURE for number in range(30)})
-    called("index", "p", "--catalogue", "c", "--quiet")
-    for number in range(30):
-        (archive / f"{number}.jpg").write_bytes(PICTURE[:-20])
-    assert called("verify", "c")[1].count(".jpg") == 10
-    assert called("verify", "c", "--list", "damaged")[1].count(".jpg: ") == 30
-
-
-def test_index_goes_on_with_digests(archive, called, verified):
-    """Otherwise the pictures that were captioned since would have none."""
-    written(archive / "a.jpg", CAPTIONED)
-    called("index", "p", "--catalogue", "c", "--quiet")
-    assert verified()[:2] == (0, {})
 
 
 # How often files are read
@@ -413,18 +341,6 @@ def bagged(folder, files):
 BAG = {b"a.jpg": PICTURE, b"sub/100%\n.jpg": CAPTIONED, b"\xff.txt": b"text", b"sub/ b .jpg": OTHER}
 
 
-@pytest.mark.parametrize("end", [b"\n", b"\r\n", b"\r"], ids=["LF", "CRLF", "CR"])
-def test_line_ends_of_a_manifest(end, folder, called):
-    """RFC 8493 has three."""
-    bagged(folder / "bag", BAG)
-    manifest = folder / "bag/manifest-sha256.txt"
-    manifest.write_bytes(manifest.read_bytes().replace(b"\n", end))
-    (folder / "bag/bagit.txt").write_bytes(b"BagIt-Version: 1.0" + end + b"Tag-File-Character-Encoding: UTF-8" + end)
-    assert called("verify", "--bag", "bag")[0] == 0
-    (folder / "bag/data/a.jpg").unlink()
-    assert called("verify", "--bag", "bag")[0] == 1
-
-
 def test_a_bag(folder, called):
     bagged(folder / "bag", BAG)
 
@@ -442,27 +358,6 @@ def test_a_bag(folder, called):
     bagged(folder / "more", {b"a.jpg": PICTURE})
     put(folder / "more", {"data/b.jpg": PICTURE})
     assert called("verify", "--bag", "more")[0] == 1  # a bag has nothing that its manifest doesn't have
-
-
-@pytest.mark.parametrize(
-    "manifest",
-    [
-        None,
-        b"x  data/a.jpg\n",
-        b"%s  data/../a.jpg\n",
-        b"%s  /etc/passwd\n",
-        b"%s  data/\n",
-        b"%s data\n",
-        b"%s  a.jpg",
-        b"%s  data/b\n%s  data/./b\n",
-    ],
-)
-def test_what_is_no_bag(manifest, folder, called):
-    put(folder / "bag", {"data/a.jpg": PICTURE})
-    if manifest:
-        (folder / "bag/manifest-sha256.txt").write_bytes(manifest.replace(b"%s", b"0" * 64))
-    status, printed, messages = called("verify", "--bag", "bag")
-    assert (status, printed) == (3, "") and "manifest-sha256.txt" in messages
 
 
 @pytest.mark.parametrize("end", ["", "\n"])

@@ -67,15 +67,6 @@ def test_whatever_a_crate_is_made_from_is_in_the_sum(levels, kind, name):
         assert store_of(levels).is_current("px_high")
 
 
-def test_times_and_what_is_no_source_are_not_in_the_sum(levels):
-    for path in levels.rglob("*"):
-        path.touch()
-    (levels / "crates/px_low/out").mkdir()
-    copy = shutil.copytree(levels, levels / "copy")
-    assert all(it.is_current("px_high") for it in (store_of(levels), store_of(copy), store_of(levels, version="")))
-    assert not store_of(levels, "toolchain 2").is_built("px_low"), "the toolchain's version is passed over"
-
-
 @pytest.mark.parametrize(
     "old, new, is_current",
     [
@@ -99,17 +90,6 @@ def test_a_crate_is_good_over_the_very_libraries_that_it_was_built_over(levels):
     (proved / "px_low.made-from").write_bytes(b"\xff")
     build(levels, ["px_low"])
     assert store_of(levels).unbuilt("px_high") == ["px_middle", "px_high"], "another px_low of the same sources is below it now"
-
-
-def test_what_was_built_while_a_source_was_edited_is_not_taken_when_the_edit_is_undone(levels):
-    store, source = store_of(levels), levels / "crates/px_low/src/lib.rt"
-    expected = store.expected("px_low")
-    with store.making_place():
-        (made := store.making / "made").touch()
-        source.write_text("two")
-        store.put("px_low", made, expected)
-    source.write_text("one")
-    assert not store.is_built("px_low")
 
 
 def test_links_among_the_sources_are_refused(levels):
@@ -222,12 +202,6 @@ def test_each_crate_is_proved_once_after_those_below_it(room):
     assert room.prove("px_cli").returncode == 0 and room.built() == ["px_iim", "px_cli"]
 
 
-@pytest.mark.parametrize("words", [[], ["px_cli", "px_c"], ["--take"], ["px_none"]])
-def test_wrong_words(room, words):
-    ran = room.prove(*words)
-    assert ran.returncode == 1 and ("crates.txt names no crate" if words == ["px_none"] else "build/prove.py CRATE") in ran.stderr, ran
-
-
 def test_crates_that_need_not_wait_are_proved_side_by_side_and_the_longest_chain_first(room):
     late = Room(room.folder / "late", "px_a: clap\npx_late: px_a\npx_b: px_a\npx_c: px_b\npx_cli: px_c px_late\n")
     late.hold("px_late")
@@ -238,14 +212,6 @@ def test_crates_that_need_not_wait_are_proved_side_by_side_and_the_longest_chain
     assert started.communicate(timeout=800)[0] == "" and started.returncode == 0
     gave_way = {name: int(by) for what, name, by in late.log() if what == "end"}
     assert [gave_way[name] for name in ("px_a", "px_b", "px_cli", "px_late")] == [os.nice(0)] * 3 + [19], late.log()
-
-
-@pytest.mark.parametrize("processors, gigabytes, expected", [(1, 64, 1), (64, 64, 3), (4, 0, 1), (4, 5, 1), (4, 6, 2), (4, 9, 3)])
-def test_no_more_are_proved_at_once_than_there_are_processors_and_memory_for(monkeypatch, processors, gigabytes, expected):
-    assert 0 < prove.free_memory() < 1 << 50
-    monkeypatch.setattr(prove.os, "sched_getaffinity", lambda process: range(processors))
-    monkeypatch.setattr(prove, "free_memory", lambda: gigabytes << 30)
-    assert (prove.places(), prove.jobs()) == (expected, min(4, processors))
 
 
 def test_a_proof_that_fails_ends_the_others_and_is_made_again(room):
@@ -337,14 +303,6 @@ def test_a_build_that_is_stopped_ends_with_all_that_it_started(room, start, name
     assert started.returncode == status and why.endswith("\nexifnorm: the build was stopped\n"), why
     wait_until(lambda: not runs(working) and not runs(below), "the compiler runs on, or what it started")
     assert not [*room.top.glob("out/*/making")] and not [*room.top.glob("out/*/*.made-from")]
-
-
-def test_a_second_signal_does_not_end_a_stop():
-    prove.listen()
-    with pytest.raises(prove.NotBuilt, match="was stopped"):
-        os.kill(os.getpid(), signal.SIGTERM)
-    for number in prove.STOPS:
-        os.kill(os.getpid(), number)
 
 
 def test_signals_that_the_caller_ignores_do_not_stop_a_build(room):
