@@ -103,7 +103,7 @@ def test_what_was_proved_is_not_proved_again_until_something_changes_but_in_ci(g
         "HANDLES",
         "bin/version",
     ):
-        (gate / name).write_text("two", encoding="ascii")
+        (gate / name).write_text("two\n", encoding="ascii")
         assert "proving" in call(gate).stdout, name
         assert "proving" not in call(gate).stdout, name
 
