@@ -433,6 +433,7 @@ def second_night() -> Files:
         "copies/first.jpg": captioned(100, title="A dish"),
         "drawer/changed.jpg": captioned(159, title="A jug"),
         "notes/goes.jpg": jpeg(app1(small_tiff((0x010F, ASCII, b"Canon\0"), (0x013B, ASCII, b"Eva\0"), order=">"))),
+        "notes/owner.jpg": noted(owner=b"Magdalena"),
         "refused/Doubled.jpg": with_exif(picture(300 + [*BLOCKS].index("Doubled")), BLOCKS["Unsorted"]),
         "rare/unknown-item.heic": unknown_item(b"two"),
         "states/rots.jpg": bytes(rotten),
@@ -641,7 +642,9 @@ def alike() -> Files:
         **{f"{name}-without-jfif.jpg": it.replace(plain[2:20], b"") for name, it in jpegs.items()},
         **{f"{name}.webp": webp(*chunks) for name, chunks in webps.items()},
         "a-link.jpg": Link("plain.jpg"),
-        **{f"{number}.heic": heif(PICTURE, PICTURE, primary=number) for number in (1, 2)},
+        "empty-at-end.webp": webp((b"VP8 ", b"pixels"), (b"SALT", b"")),
+        # the main picture: none, the first, the second, and one that isn't there
+        **{f"{number}.heic": heif(PICTURE, PICTURE, primary=number) for number in range(4)},
         **{f"{number}.png": png(point=number) for number in (1, 2)},
     }
 

@@ -202,6 +202,7 @@ CALLS = {
         index archive/states --catalogue first --jobs 1 --quiet
             index archive/states --catalogue second --jobs 1 --quiet
             changed first second
+        changed edits/row edits/numbered-anew --jobs 1 --quiet
         changed edits/row edits/numbered-anew --jobs 1 --quiet --each
         changed edits/masters edits/web --match stem --jobs 1 --quiet
         changed edits/masters edits/web --match stem --jobs 1 --quiet --csv

@@ -42,6 +42,11 @@ CALLS = """
     read(open("archive/work/touched.jpg", "rb"))
     read(open("archive/sidecars/raw.xmp", "rb")).type
     read(io.BytesIO(packet)).type
+    [read_bytes(blank + packet).type for blank in (b"\\xef\\xbb\\xbf", b" \\t\\r\\n")]
+    read_bytes(b"!" + packet)
+    read("edits/alike/empty-at-end.webp", whole=True).not_read
+    Reader(programs=False).read("edits/alike/0.heic")
+    Reader(programs=False).read("edits/alike/3.heic")
     read(io.BytesIO(packet), name="raw.XMP").type
     read(io.BytesIO(packet), name="\\ud800\\udcff.xmp").path
     read_bytes(data)
