@@ -102,7 +102,8 @@ def test_the_table_of_captions_leaves_no_cell_empty(museum):
 def test_changed_says_what_compare_says(museum):
     """Each picture of both nights: its result and the fields that differ are those of `compare` with its two files."""
     pictures = by_path(objects("changed full.before full --all", museum))
-    pictures = {name: it for name, it in pictures.items() if not name.startswith("sidecars/")}  # which `compare` doesn't read
+    # `compare` reads no sidecars, and a catalogue has no bytes of a MakerNote, but what ExifTool reads of it
+    pictures = {name: it for name, it in pictures.items() if not name.startswith(("sidecars/", "notes/owner"))}
     names = [
         it for it in pictures if all((museum / top / it).is_file() for top in ("one", "archive")) and "\n" not in it and "\\" not in it
     ]
