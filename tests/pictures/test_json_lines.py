@@ -3,7 +3,6 @@
 import copy
 import json
 import re
-import subprocess
 from pathlib import Path
 
 import exifnorm_pictures
@@ -11,21 +10,12 @@ import jsonschema
 import pytest
 from exact_fields import field
 from made_files import data_set, jpeg, with_record, with_texts, xmp
-from studio import TOP, needs
+from studio import TOP
 
 from exifnorm_pictures.cli import main, parser
 from exifnorm_pictures.fields.typed import typed
 
 SCHEMA = json.loads(Path(exifnorm_pictures.__path__[0], "output.schema.json").read_text(encoding="utf-8"))
-
-
-STRUCTURES = [
-    "-XMP-xmpMM:DerivedFrom={DocumentID=xmp.did:1,InstanceID=xmp.iid:2}",
-    "-XMP-xmpMM:History=[{Action=created},{Action=saved,Changed=/,When=2019:03:12 11:20:45+01:00,Parameters=" + "a long text " * 40 + "}]",
-    "-XMP-iptcExt:LocationCreated={City=Bern,LocationName=Kirche,LocationName-de=Kirche auf dem Berg,LocationId=[a,b]}",
-    "-XMP-mwg-rs:RegionInfo={AppliedToDimensions={W=3,H=2.5,Unit=pixel},RegionList=[{Name=Anna,Type=Face},{Name=Otto,Type=Pet}]}",
-    "-XMP-exif:Flash={Fired=True,Return=0}",
-]
 
 
 def closed(schema):
@@ -94,6 +84,8 @@ def test_typed_values(kind, count, shown, value):
         ("text", 1, '"Vase"', "Vase"),
         ("URI", 1, "<http://x/>", "http://x/"),
         ("text", 2, '"a", "b"', ["a", "b"]),
+        ("text", 1, '"Vase"@de', [{"text": "Vase", "language": "de"}]),
+        ("text", 2, '"Vase", "Krug"@de', [{"text": "Vase", "language": None}, {"text": "Krug", "language": "de"}]),
         ("Bag", 1, 'Bag["a"]', ["a"]),
         ("Bag", 0, "Bag[]", []),
         ("Alt", 2, 'Alt["Vase"@x-default, "Krug"@de]', [{"text": "Vase", "language": "x-default"}, {"text": "Krug", "language": "de"}]),
@@ -130,42 +122,6 @@ def test_typed_values_of_xmp(kind, count, shown, value):
 def test_types_of_xmp(name, text, value):
     """By the type that the standard gives to a property; dates are texts, as those of Exif are."""
     assert json.dumps(typed(field("xmp", name, "text", 1, f'"{text}"'))) == json.dumps(value)
-
-
-def as_exiftool_prints(value):
-    """A value of --json as ExifTool has it with -struct: names without prefixes in small letters, further languages in names, dates with colons."""
-    if isinstance(value, list):
-        return [as_exiftool_prints(it) for it in value]
-    if not isinstance(value, dict):
-        return re.sub("^([0-9]{4})-([0-9]{2})-([0-9]{2})T", r"\1:\2:\3 ", value) if isinstance(value, str) else value
-    members = {}
-    for name, member in value.items():
-        word = name.partition(":")[2].casefold()
-        if isinstance(member, list) and isinstance(member[0], dict) and "language" in member[0]:
-            members.update({word + f"-{it['language']}".replace("-x-default", ""): it["text"] for it in member})
-        else:
-            members[word] = as_exiftool_prints(member)
-    return members
-
-
-@needs("exiftool")
-def test_structures_are_those_of_exiftool(objects, folder):
-    """Also of more than 400 characters, of which `changed` has a digest."""
-    (folder / "a.jpg").write_bytes(jpeg())
-    objects("index", "@/a.jpg", "--catalogue", "@/before.sqlite")
-    words = ["exiftool", "-config", "", "-q", "-n", "-struct"]
-    subprocess.run([*words, "-overwrite_original", *STRUCTURES, folder / "a.jpg"], check=True)
-    printed = subprocess.run([*words, "-j", "-XMP:all", "-x", "XMPToolkit", folder / "a.jpg"], stdout=subprocess.PIPE, check=True).stdout
-    (theirs,) = json.loads(printed, object_hook=lambda it: {name.casefold(): value for name, value in it.items()})
-    theirs["regions"] = theirs.pop("regioninfo")
-    del theirs["sourcefile"]
-    fields = {it["name"].rpartition(":")[2].casefold(): it for block in objects("show", "@/a.jpg")[0]["blocks"] for it in block["fields"]}
-    assert {name: as_exiftool_prints(it["value"]) for name, it in fields.items()} == theirs
-    objects("index", "@/a.jpg", "--catalogue", "@/after.sqlite")
-    (picture, *_) = objects("changed", "@/before.sqlite", "@/after.sqlite")
-    after = {it["name"].rpartition(":")[2].casefold(): it["after"]["value"] for it in picture["fields"]}
-    assert set(after.pop("history")) == {"sha256", "count"}
-    assert after == {name: it["value"] for name, it in fields.items() if name != "history"}
 
 
 def test_a_structure_too_long_for_a_text_is_a_digest(objects, folder):
