@@ -142,6 +142,10 @@ class TestCatalogue:
         write(self.folder / "p" / name, octets)
         os.utime(self.folder / "p" / name, ns=(now.st_atime_ns, now.st_mtime_ns))
 
+    def test_a_picture_that_is_named_has_its_sidecar(self, called_lines):
+        assert called_lines("index", "p/x.jpg", "--catalogue", "d", "--sidecars", "--quiet")[0] == 0
+        assert sql_rows(self.folder / "d", "SELECT name FROM blocks") == [("Exif",), ("XMP sidecar",)]
+
     def test_a_file_by_itself_that_becomes_a_sidecar(self, called_lines):
         write(self.folder / "p" / "z.jpg", PICTURE)
         assert called_lines("index", "p", "--catalogue", "c", "--quiet")[1] == ["2 unchanged, 1 accepted"]
