@@ -275,10 +275,16 @@ def test_a_folder_where_pictures_are_expected(pictures, called, command):
     assert called(*command.split(), "p q", "--json")[1].count("NotAFile") == 1
 
 
+def test_pictures_where_folders_are_expected(pictures, called):
+    status, _, messages = called("changed", "p q/a.jpg", "p q/a.jpg")
+    assert status == 3 and messages.endswith("for two pictures use: exifnorm-pictures compare A B\n")
+
+
 def test_help(called, capsys):
-    for words, usage in ((["help"], "usage: exifnorm-pictures [-h]"), (["help", "mend"], "usage: exifnorm-pictures mend [")):
+    first = {"": "usage: exifnorm-pictures [-h]", "mend": "usage: exifnorm-pictures mend [", "rules": "Rules:", "fields": "FIELD is a name"}
+    for words, usage in first.items():
         with pytest.raises(SystemExit) as ended:
-            called(*words)
+            called("help", *words.split())
         assert ended.value.code == 0 and capsys.readouterr().out.startswith(usage)
     with pytest.raises(SystemExit) as ended:
         called("help", "nothing")
