@@ -80,7 +80,7 @@ def put_back(called, folder, before, after):
     shutil.copytree(folder / after, folder / "back", symlinks=True)
     status, _, said = called("changed", before, after, "--undo", "args", "--json", "--no-programs")
     written = (folder / "args").read_bytes().decode("utf-8", "surrogateescape")
-    kept = {it[1]: it[2].split(", ") for it in re.finditer("^# left as it is:  (.*): (.*)$", written, re.M)}
+    kept = {it[1]: it[2].split(", ") for it in re.finditer("^# left as it is: (.*): (.*)$", written, re.M)}
     assert (status == 2) or not kept, said
     said = exiftool(folder / "back", "-q", "-@", str(folder / "args"), "-common_args", "-overwrite_original")[1]
     assert not re.search("not defined|Invalid|limit|truncated|Malformed|not in list", said), said

@@ -308,9 +308,9 @@ class Undo:
             left += _not_compared(comparison)
             if left:
                 self._count += 1
-                line = f"  {shown_path(place)}: {', '.join(left)}"
-                self.left += [line] * (self._count <= MOST_NAMED)
-                lines.append(b"# left as it is:" + line.encode())
+                line = f"{shown_path(place)}: {', '.join(left)}"
+                self.left += [f"  {line}"] * (self._count <= MOST_NAMED)
+                lines.append(b"# left as it is: " + line.encode())
             self._file.writelines(it + b"\n" for it in lines)
             yield comparison
 
