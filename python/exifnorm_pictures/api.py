@@ -324,7 +324,7 @@ def compare(before: Picture | Source, after: Picture | Source, *, ask_exiftool: 
 def _with_pixels(picture: Picture) -> PictureRecord:
     """The record of a picture with the digests of its coded picture and of the file, if this is still the one that was read."""
     whole, record = picture._origin.whole(), picture._record
-    if whole is None:
+    if not whole:
         return record
     (coded, beside, damage), sha256, _ = whole
     file = "" if all(it.digest for it in record.unread) else sha256

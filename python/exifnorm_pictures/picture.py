@@ -13,7 +13,7 @@ from exifnorm._words import documented
 
 from .comparison.origin import Origin
 from .extract.extraction import failed
-from .fields.packing import fields_of
+from .fields.packing import BlockFields, fields_of
 from .fields.character_sets import in_found_set
 from .fields.names import spellings
 from .fields.listing import Shown
@@ -33,6 +33,8 @@ if TYPE_CHECKING:
     from .fields.labels import Caption
     from .fields.typed import Value
 
+    _ByName = dict[str, list[Field]]
+
 
 class NoField(KeyError):
     """A picture has no field of this name."""
@@ -49,7 +51,7 @@ class NoField(KeyError):
         return f"{repr(name)[:100]}: the picture has no such field" + (meant(name, self._names) if isinstance(name, str) else "")
 
 
-_NOTHING: Any = object()  # what `get` returns for no field
+_NOTHING = object()  # what `get` returns for no field
 D = TypeVar("D")
 T = TypeVar("T")
 
@@ -144,9 +146,13 @@ class Block:
         return self._members(ShownFields())
 
     def _members(self, shown: ShownFields) -> Members:
-        fields = list(map(_field_members, shown.of(self)))
-        rest = {"repair": [step._asdict() for step in self._record.steps], "fields": fields, "has_more_fields": shown.has_more}
-        return {**self._record.members, "extractor": self.extractor, **rest}
+        return {
+            **self._record.members,
+            "extractor": self.extractor,
+            "repair": [step._asdict() for step in self._record.steps],
+            "fields": list(map(_field_members, shown.of(self))),
+            "has_more_fields": shown.has_more,
+        }
 
     def __repr__(self) -> str:
         return f"Block(name={self.name!r}, status={self.status!r}, where={self.where!r})"
@@ -154,9 +160,16 @@ class Block:
 
 def _field_members(field: Field) -> Members:
     """A field: its name for people, what identifies it, and its value for people, exactly and for programs."""
-    name = {"name": field.name, "directory": field.directory, "key": field.key}
-    values = {"type": field.type, "count": field.count, "plain": field.text, "exact": field.exact, "value": field.json}
-    return {**name, **values}
+    return {
+        "name": field.name,
+        "directory": field.directory,
+        "key": field.key,
+        "type": field.type,
+        "count": field.count,
+        "plain": field.text,
+        "exact": field.exact,
+        "value": field.json,
+    }
 
 
 class ShownFields(Shown):
@@ -287,12 +300,18 @@ class Picture(Mapping[str, "Value"]):
 
     def _members(self, shown: ShownFields) -> Members:
         """The same, with the fields that are still shown."""
-        about = {**path_members(self.path), "problem": self._problem or None, "detail": self._detail or None, "type": self.type or None}
-        blocks = [it._members(shown) for it in self.blocks]
-        damaged = {"damage": self.damage or None, "not_known": list(self.not_known)}
-        return {**about, "blocks": blocks, "not_read": list(self.not_read), **damaged}
+        return {
+            **path_members(self.path),
+            "problem": self._problem or None,
+            "detail": self._detail or None,
+            "type": self.type or None,
+            "blocks": [it._members(shown) for it in self.blocks],
+            "not_read": list(self.not_read),
+            "damage": self.damage or None,
+            "not_known": list(self.not_known),
+        }
 
-    def _of_blocks(self) -> list[tuple[BlockRecord, list[Field]]]:
+    def _of_blocks(self) -> list[BlockFields]:
         """The blocks with their fields."""
         return [(record, self._fields_of(record)) for record in self._records]
 
@@ -306,22 +325,22 @@ class Picture(Mapping[str, "Value"]):
         return tuple(self._by_name)
 
     @cached_property
-    def _by_name(self) -> dict[str, list[Field]]:
+    def _by_name(self) -> _ByName:
         """The fields by the names that they have here. Most are asked for by these."""
         return _named_in(self._lists())
 
     @cached_property
-    def _by_spelling(self) -> list[tuple[BlockRecord, dict[str, list[Field]]]]:
+    def _by_spelling(self) -> list[tuple[BlockRecord, _ByName]]:
         """The fields of each block by all spellings of their names."""
         known = {id(fields): _spelled(fields) for fields in self._lists()}
         return [(record, known[id(fields)]) for record, fields in self._of_blocks()]
 
-    def _own(self, name: str) -> list[tuple[BlockRecord, list[Field]]]:
+    def _own(self, name: str) -> list[BlockFields]:
         """The fields with a name of this program, of each block that has some."""
         folded = _text(name).casefold()
         return [(record, names[folded]) for record, names in self._by_spelling if folded in names]
 
-    def _named(self, name: str) -> list[tuple[BlockRecord, list[Field]]]:
+    def _named(self, name: str) -> list[BlockFields]:
         """The same, or else the fields that other programs name so."""
         if own := self._own(name):
             return own
@@ -413,7 +432,7 @@ class Picture(Mapping[str, "Value"]):
     @property
     def _labelled(self) -> PictureTexts:
         """All texts, also those that are empty, in the order of the standards."""
-        if self._texts is None:
+        if not self._texts:
             from .catalogue.texts import texts_of  # which show and explain don't need
 
             self._texts = texts_of(self._of_blocks())
@@ -476,7 +495,7 @@ class Picture(Mapping[str, "Value"]):
 
         fields = [field for fields in self._lists() for field in fields]
         place = position_of(fields)
-        return None if place is None else Position(*place, altitude_of(fields))
+        return None if not place else Position(*place, altitude_of(fields))
 
     def __repr__(self) -> str:
         return f"Picture(name={self.name!r}, type={self.type!r}, not_read={self.not_read!r})"
@@ -495,9 +514,9 @@ def _value_of(fields: Sequence[Field]) -> Value:
     return fields[0].value if len(fields) == 1 else tuple(it.value for it in fields)
 
 
-def _named_in(blocks: Iterable[list[Field]]) -> dict[str, list[Field]]:
+def _named_in(blocks: Iterable[list[Field]]) -> _ByName:
     """The fields of blocks by their names; of several blocks with a name those of the first."""
-    named: dict[str, list[Field]] = {}
+    named: _ByName = {}
     for fields in blocks:
         known = frozenset(named)
         for field in fields:
@@ -507,9 +526,9 @@ def _named_in(blocks: Iterable[list[Field]]) -> dict[str, list[Field]]:
     return named
 
 
-def _spelled(fields: Sequence[Field]) -> dict[str, list[Field]]:
+def _spelled(fields: Sequence[Field]) -> _ByName:
     """Fields by all spellings of their names."""
-    names: dict[str, list[Field]] = {}
+    names: _ByName = {}
     for field in fields:
         for spelling in spellings(field.directory, field.tag):
             names.setdefault(spelling, []).append(field)

@@ -2,7 +2,7 @@
 
 from xml.etree import ElementTree
 
-from exifnorm_pictures.xmp.packets import Unreadable
+from exifnorm_pictures.xmp.tree import Unreadable
 from exifnorm_pictures.xmp.tree import PICTURE, Literal, Node, Statement, Uri
 
 

@@ -16,7 +16,7 @@ from exifnorm_pictures.fields import packing
 from exifnorm_pictures.fields.field import Field
 from exifnorm_pictures.judge import judge
 from exifnorm_pictures.model.records import BLOCKS, PICTURES, block_of_row, not_read_of_row
-from exifnorm_pictures.model.columns import Damaged
+from exifnorm_pictures.model.errors import Damaged
 from exifnorm_pictures.model.found import Blocks
 from exifnorm_pictures.catalogue import store
 

@@ -13,7 +13,7 @@ from studio import SMALL_JPEG, TOP, needs, put, sql_rows, tool
 from exifnorm_pictures.export.rows import FieldRows, Tables
 from exifnorm_pictures.fields.field import Field
 from exifnorm_pictures.fields.packing import packed, unpacked
-from exifnorm_pictures.model.columns import Damaged
+from exifnorm_pictures.model.errors import Damaged
 from exifnorm_pictures.model.xmp_values import Array, Literal, Structure, Uri
 
 SAMPLES = os.path.join(TOP, "samples", "before")

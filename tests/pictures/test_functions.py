@@ -38,7 +38,7 @@ from exifnorm_pictures.files import session, signals
 from exifnorm_pictures.files.session import Session
 from exifnorm_pictures.judge import judge
 from exifnorm_pictures.model import records, texts, verdicts, xmp_names as short_names
-from exifnorm_pictures.model.columns import Damaged
+from exifnorm_pictures.model.errors import Damaged
 from exifnorm_pictures.model.found import EXIF, NotRead
 from exifnorm_pictures.model.numbers import Numbers
 from exifnorm_pictures.model.problems import TEXTS

@@ -21,7 +21,7 @@ from exifnorm_pictures.judge import judge
 from exifnorm_pictures.model import records
 from exifnorm_pictures.model.found import Blocks, NotRead
 from exifnorm_pictures.model.records import BlockRecord, PictureRecord, Stamp
-from exifnorm_pictures.model.columns import Damaged
+from exifnorm_pictures.model.errors import Damaged
 from hypothesis import given, strategies as st
 from made_files import app1, exif, jpeg, png as made_png
 from studio import errors, put, run

@@ -12,7 +12,7 @@ import by_rdflib
 from exifnorm_pictures.fields import xmp_properties as properties
 from exifnorm_pictures.xmp import CAUSES, reader, tree
 from exifnorm_pictures.xmp.reader import rdf_of
-from exifnorm_pictures.xmp.packets import Unreadable
+from exifnorm_pictures.xmp.tree import Unreadable
 from hypothesis import assume, given, settings
 from made_files import SPACES, title, xmp
 from packets import packets

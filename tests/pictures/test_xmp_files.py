@@ -7,7 +7,7 @@ import pytest
 
 import exifnorm
 from exifnorm_pictures.extract import readers
-from exifnorm_pictures.extract.formats.packet_start import begins_packet
+from exifnorm_pictures.model.xmp_encodings import begins_packet
 from exifnorm_pictures.extract.formats.streams import HEAD
 from exifnorm_pictures.model.budgets import PACKET_BYTES
 from exifnorm_pictures.model.found import LeftToOthers

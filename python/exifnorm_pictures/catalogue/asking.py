@@ -36,8 +36,8 @@ from ..fields.choosing import kinds_of
 from ..fields.dates import EXPECTED, asked_date, is_asked_impossible, is_impossible, plain_date
 from ..fields.labels import DAMAGE, DATED, POSITION, UNCLEAR_POSITION, fields_by_label, is_in_maker_notes
 from ..fields.listing import LONGEST_TEXT
-from ..model.records import has, has_short
-from ..model.columns import Damaged
+from ..model.records import Row, has, has_short
+from ..model.errors import Damaged
 from ..model.found import EXIF, IPTC, XMP
 from ..model.numbers import Numbers
 from ..model.problems import NOT_THERE, Problem
@@ -100,7 +100,7 @@ class Part(NamedTuple):
     """A condition of SQL, and its values."""
 
     sql: str
-    values: tuple[object, ...] = ()
+    values: Row = ()
 
 
 class _Sets(NamedTuple):
@@ -257,7 +257,7 @@ def _compared_field(question: Condition, label: str) -> list[Part]:
     if label.startswith(FIELD_DATE):
         return _compared_date(question.comparison, value)
     number = number_of(value) if label.startswith(NUMBER) else None
-    if number is not None:
+    if number:
         if question.comparison == "=":
             return [Part("CAST(head AS REAL) BETWEEN ? AND ?", (number.value - number.last, number.value + number.last))]
         return [Part(f"CAST(head AS REAL) {question.comparison} ?", (number.value,))]

@@ -13,7 +13,7 @@ from ..fields.questions import Condition, compose, fields_in, is_field
 from ..fields.labels import DAMAGE, DATED, POSITION, UNCLEAR_POSITION
 from ..fields.names import group_name
 from ..fields.rules import AFTER, AGREE, BEFORE, EQUAL, LENGTH, LIKE, NEEDS, NEVER, VALUES, Rule
-from ..model.records import has, has_short
+from ..model.records import Row, has, has_short
 from ..model.texts import Members, pictures_in_words, whole_path
 from .asking import IN_SCOPE, add_functions, forms_of_word, has_text, parts_of, pattern_of, put_wanted, unread
 from .kept_texts import DATE as FIELD_DATE, EACH, SHOWN, Report, add_fields, ambiguous_in, make_ready, say_nothing
@@ -22,6 +22,7 @@ from .texts import texts_of
 
 _TEXTS = f"""SELECT p.path, p.root, t.text FROM texts t JOIN pictures p ON p.id = t.picture
     WHERE t.label = ? AND {{}} AND {IN_SCOPE}"""
+_COMPARISONS = {AFTER: ">", BEFORE: "<", EQUAL: "=", VALUES: "is"}  # of questions
 
 
 class Broken(NamedTuple):
@@ -83,7 +84,7 @@ class Checked:
                 if rule.is_about(_below(path, root)):
                     yield path, text
 
-    def _queries(self, rule: Rule, label: str) -> Iterator[tuple[str, tuple[object, ...]]]:
+    def _queries(self, rule: Rule, label: str) -> Iterator[tuple[str, Row]]:
         """The pictures that break a rule in SQL, with the text that does, and its values. A date that no calendar has breaks each rule."""
         if rule.kind == NEEDS:
             # a picture that was not wholly read may have the text
@@ -108,33 +109,33 @@ class Checked:
         """The label of the texts that a rule is about: of a field those that `show` prints, or its dates."""
         return label if not is_field(label) else (FIELD_DATE if rule.kind in (AFTER, BEFORE) else SHOWN) + label
 
-    def _test(self, rule: Rule, label: str) -> tuple[str, tuple[object, ...]]:
+    def _test(self, rule: Rule, label: str) -> tuple[str, Row]:
         """What a text has to be in SQL to break a rule, and its values."""
         if rule.kind == NEVER:
             return "1", ()
+        value = rule.values[0]
         if rule.kind == LIKE:
-            return "composed(t.text) NOT GLOB ?", (pattern_of(compose(rule.values[0])),)
+            return "composed(t.text) NOT GLOB ?", (pattern_of(compose(value)),)
         if rule.kind == LENGTH:
-            return "length(composed(t.text)) > ?", (int(rule.values[0]),)
+            return "length(composed(t.text)) > ?", (int(value),)
+        condition = Condition(label, _COMPARISONS[rule.kind], value)
         if rule.kind in (AFTER, BEFORE):
-            later = Condition(label, ">" if rule.kind == AFTER else "<", rule.values[0])
-            (part,) = parts_of(later, self._label_of(rule, label))
+            (part,) = parts_of(condition, self._label_of(rule, label))
             return part
-        assert rule.kind in (VALUES, EQUAL)
-        condition = Condition(label, "=" if rule.kind == EQUAL else "is", rule.values[0])
         return self._unlike(condition, self._allowed.get(rule, 0))
 
-    def _unlike(self, condition: Condition, allowed: int) -> tuple[str, tuple[object, ...]]:
+    def _unlike(self, condition: Condition, allowed: int) -> tuple[str, Row]:
         """That a text doesn't compare as a condition has it, in none of the forms of its value."""
         tests, values = [], []  # type: list[str], list[object]
-        for label in forms_of_word(condition.label):
+        labels = forms_of_word(condition.label)
+        for label in labels:
             for part in parts_of(condition, label, allowed):
                 tests.append(f"f.label = ? AND {part.sql}")
                 values += [label, *part.values]
         same = "f.long IN (0, 1) AND f.picture = t.picture AND "
         same += f"f.number / {EACH} = t.number / {EACH}" if is_field(condition.label) else "f.number = t.number"
-        fits = f"SELECT 1 FROM texts f WHERE f.label IN ({', '.join('?' * len(forms_of_word(condition.label)))}) AND {same}"
-        return f"NOT EXISTS ({fits} AND ({' OR '.join(tests)}))", (*forms_of_word(condition.label), *values)
+        fits = f"SELECT 1 FROM texts f WHERE f.label IN ({', '.join('?' * len(labels))}) AND {same}"
+        return f"NOT EXISTS ({fits} AND ({' OR '.join(tests)}))", (*labels, *values)
 
     def broken(self, by_picture: bool = False) -> Iterator[Broken]:
         """What breaks a rule, by rules or by pictures."""

@@ -23,13 +23,14 @@ from ..fields.forms import Forms, forms_of, number_of
 from ..fields.labels import CODED, DAMAGE, DATED, OF_FIELDS, POSITION, UNCLEAR_POSITION, has_long
 from ..fields.listing import LONGEST_TEXT, is_rest
 from ..fields.names import group_name
+from ..fields.packing import BlockFields
 from ..fields.places import further_places, has_angles, is_angle, position_of, signed_degrees
 from ..fields.plain_numbers import iptc_time
 from ..fields.plain_texts import decoded
 from ..fields.plain_values import plain
 from ..fields.typed import typed
 from ..model.found import NAMES
-from ..model.records import BlockRecord, PictureRecord
+from ..model.records import PictureRecord, Row
 from ..model.xmp_values import texts_in
 from .store import HEAD, Catalogue, NoCatalogue, is_left_open, put_text, roll_back, texts_table
 from .texts import PictureTexts, texts_of
@@ -51,11 +52,11 @@ def kept_text(label: str, text: str) -> KeptText:
     return label, text, compared[:HEAD], None if is_derived else compared
 
 
-MORE: KeptText = ("", "", "", None)  # in place of texts that aren't kept
+MORE = ("", "", "", None)  # in place of texts that aren't kept
 _MOST_CHARACTERS = 1 << 20  # of the texts of a picture
 
 
-def rows_of(blocks: Sequence[tuple[BlockRecord, list[Field]]], maker_notes: Mapping[str, str] = {}) -> tuple[KeptText, ...]:
+def rows_of(blocks: Sequence[BlockFields], maker_notes: Mapping[str, str] = {}) -> tuple[KeptText, ...]:
     """The texts of a picture by its blocks, each with its fields, and by what ExifTool reads of its MakerNotes: a text that several fields
     have once.
 
@@ -85,11 +86,11 @@ def _texts(labelled: PictureTexts, fields: Sequence[Field]) -> Iterator[tuple[st
         if not texts.is_own:
             yield from ((texts.label, text) for text in texts.texts)
     place = position_of(fields)
-    if place is not None:
+    if place:
         yield POSITION, place.text
     further, is_unclear = further_places(fields)
     yield from ((POSITION, one.text) for one in further)
-    if is_unclear or (place is None and has_angles(fields)):
+    if is_unclear or (not place and has_angles(fields)):
         yield UNCLEAR_POSITION, "?"
     for field in fields:
         label = _OF_FIELDS.get((field.directory, field.tag))
@@ -125,7 +126,7 @@ def _of_field(field: Field) -> Iterator[str]:
 
 
 Report = Callable[[int, int], None]  # of how many pictures the texts were added, and how many had none
-Rows = Callable[[Catalogue, int], Iterator[tuple[object, ...]]]  # the texts of a picture, by its number
+Rows = Callable[[Catalogue, int], Iterator[Row]]  # the texts of a picture, by its number
 
 AT_ONCE = 1000  # pictures of a transaction
 _OTHERS = "temp.other_texts"
@@ -201,7 +202,7 @@ def _add(catalogue: Catalogue, table: str, pictures: str, after: int, rows: Rows
     return numbers
 
 
-def _rows(catalogue: Catalogue, number: int) -> Iterator[tuple[object, ...]]:
+def _rows(catalogue: Catalogue, number: int) -> Iterator[Row]:
     """The texts of a picture as rows."""
     picture = PictureRecord(number)
     blocks = catalogue.blocks_with_fields(picture)
@@ -264,7 +265,7 @@ def ambiguous_in(places: Places) -> dict[str, list[str]]:
     return ambiguous({word: [group_name(*it) for it in of_word] for word, of_word in places.items()})
 
 
-def _rows_of_fields(choices: Sequence[tuple[str, Choice]], seen: Places, catalogue: Catalogue, number: int) -> Iterator[tuple[object, ...]]:
+def _rows_of_fields(choices: Sequence[tuple[str, Choice]], seen: Places, catalogue: Catalogue, number: int) -> Iterator[Row]:
     """The texts of a picture as rows. Of fields with the same texts one counts; a field may have a text twice, as 16 bits for each colour."""
     blocks = catalogue.blocks_with_fields(PictureRecord(number))
     lists = {id(fields): fields for _, fields in blocks}  # pages of a TIFF may share one

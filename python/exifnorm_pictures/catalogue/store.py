@@ -21,8 +21,7 @@ from typing import Any, Callable, Iterable, Iterator, Optional, Sequence, Type, 
 
 from exifnorm._named import NamedTuple
 
-from ..fields.packing import fields_of, joined, parted, with_kept_fields
-from ..fields.field import Field
+from ..fields.packing import BlockFields, fields_of, joined, parted, with_kept_fields
 from ..files import opening as files, signals
 from ..model.budgets import ROW_BYTES, ROW_NUMBER, SQL_STEPS
 from ..model.found import NAMES, OWN, NotRead
@@ -31,6 +30,7 @@ from ..model.records import (
     PICTURES,
     BlockRecord,
     PictureRecord,
+    Row,
     Stamp,
     Status,
     block_of_row,
@@ -38,8 +38,7 @@ from ..model.records import (
     not_read_of_row,
     picture_of_row,
 )
-from ..model.columns import Damaged
-from ..model.errors import Failure
+from ..model.errors import Damaged, Failure
 from ..model.problems import GONE, NO_BYTES
 from ..model.numbers import Numbers
 
@@ -405,7 +404,7 @@ def _own_parts() -> "frozenset[Part]":
         return frozenset(map(_part, base.execute("SELECT type, name, sql FROM sqlite_master")))
 
 
-def _part(row: tuple[object, ...]) -> Part:
+def _part(row: Row) -> Part:
     """A part of a schema without comments and spaces."""
     kind, name, sql = map(str, row)
     return kind, name, re.sub(r"\s+", "", re.sub(r"--[^\n]*", "", sql))
@@ -548,7 +547,7 @@ class Catalogue:
     def _check_place(self) -> None:
         """Raises `NoCatalogue` if the name no longer leads to what was written. SQLite goes on writing to a file that was removed or replaced."""
         now = identity(self.name)
-        if now is None or now != self._file:
+        if not now or now != self._file:
             raise NoCatalogue(f"{self.name} was {'replaced' if now else 'removed'} while it was written, so this run is not in it")
         head, length = head_of(self.name)
         pages, size = int.from_bytes(head[28:32], "big"), int.from_bytes(head[16:18], "big")
@@ -708,7 +707,7 @@ class Catalogue:
                 self.base.execute("COMMIT")
         now = identity(self.name)
         if is_answer and (now != before or _size_of(self.name) < size):
-            what = "removed" if now is None else "replaced" if now != before else "cut"
+            what = "removed" if not now else "replaced" if now != before else "cut"
             raise NoCatalogue(f"{self.name} was {what} while it was read, so this answer is about what it was")
 
     @overload
@@ -799,12 +798,12 @@ class Catalogue:
         query = f"SELECT {BLOCK_COLUMNS} FROM blocks WHERE picture = ? ORDER BY number"
         return with_kept_fields(list(self.rows(query, (picture.id,), _bounded(block_of_row))))
 
-    def blocks_with_fields(self, picture: PictureRecord) -> list[tuple[BlockRecord, list[Field]]]:
+    def blocks_with_fields(self, picture: PictureRecord) -> list[BlockFields]:
         """The blocks of a picture, each with its fields."""
         with self.guarded():
             return [(block, fields_of(block)) for block in self.blocks_of(picture)]
 
-    def packed_fields(self, columns: str, where: str = "") -> Iterator[tuple[int, list[tuple[Any, ...]]]]:
+    def packed_fields(self, columns: str, where: str = "") -> Iterator[tuple[int, list[Row]]]:
         """Each picture's number, and for each of its blocks some columns and its packed fields."""
         rows = self.rows(f"SELECT picture, {columns}, fields FROM blocks{where} ORDER BY picture, number")
         for picture, ours in groupby(rows, key=itemgetter(0)):
@@ -829,7 +828,7 @@ class Catalogue:
         """Each folder that was indexed. No index has them, so all pictures are gone through: once, and again after somebody has written."""
         # what is other once anybody has written, also another program
         state = [*(next(self.rows(f"PRAGMA {schema}.data_version"))[0] for schema in self._schemas), self.base.total_changes]
-        if self._roots is None or self._roots[0] != state:
+        if not self._roots or self._roots[0] != state:
             self._roots = state, list(self.rows("SELECT DISTINCT root FROM pictures ORDER BY root", (), root_of_row))
         return list(self._roots[1])
 
@@ -865,11 +864,11 @@ class Catalogue:
                 other.execute("PRAGMA journal_mode = DELETE")
 
 
-def _bounded(factory: Callable[[tuple[Any, ...]], Made]) -> Callable[[tuple[Any, ...]], Made]:
+def _bounded(factory: Callable[[Row], Made]) -> Callable[[Row], Made]:
     """The same function of rows, which raises `Damaged` once all of them have too many bytes: in a crafted file they can share them."""
     left = ROW_BYTES
 
-    def bounded(row: tuple[Any, ...]) -> Made:
+    def bounded(row: Row) -> Made:
         nonlocal left
         left -= sum([len(cell) for cell in row if isinstance(cell, (str, bytes))])
         if left < 0:
@@ -931,7 +930,7 @@ def _run_of_row(row: Run) -> Run:
     return row
 
 
-def _known(row: tuple[Any, ...]) -> Known:
+def _known(row: Row) -> Known:
     return Known(row[0], None if row[1] is None else Stamp._make(row[1:6]), *row[6:])
 
 

@@ -5,13 +5,12 @@ from __future__ import annotations
 from typing import NamedTuple, Sequence
 
 from ..fields.labels import LABEL_WORDS, LABELLED, Caption, camera_of, not_kept, of_labelled, with_own
-from ..fields.packing import rests_of
+from ..fields.packing import BlockFields, rests_of
 from ..fields.character_sets import in_found_set
 from ..fields.field import Field
 from ..fields.listing import rest_of
 from ..fields.places import Located, located, of_position
 from ..model.found import EXIF, IPTC, NAMES, STANDARDS, XMP
-from ..model.records import BlockRecord
 from .conflicts import Conflict, conflicts
 
 
@@ -37,7 +36,7 @@ class PictureTexts(NamedTuple):
 _BlockTexts = tuple[list[Caption], set[str]]  # the texts of a block, and the labels of those that are too long
 
 
-def _texts_of_block(fields: list[Field], blocks: Sequence[tuple[BlockRecord, list[Field]]]) -> _BlockTexts:
+def _texts_of_block(fields: list[Field], blocks: Sequence[BlockFields]) -> _BlockTexts:
     labelled = [it for it in fields if (it.directory, it.tag) in LABELLED]
     if not labelled:
         return [], set()
@@ -48,24 +47,25 @@ def _texts_of_block(fields: list[Field], blocks: Sequence[tuple[BlockRecord, lis
 _DIRECTORIES = {EXIF: ("main", "exif"), IPTC: ("iptc",), XMP: ("xmp",)}
 
 
-def texts_of(blocks: Sequence[tuple[BlockRecord, list[Field]]], wanted: Sequence[str] = LABEL_WORDS) -> PictureTexts:
+def texts_of(blocks: Sequence[BlockFields], wanted: Sequence[str] = LABEL_WORDS) -> PictureTexts:
     """The texts of a picture by its blocks, each with its fields. Those that have the same list of fields have the same texts."""
     texts: list[Caption] = []
-    long: set[str] = set()
-    behind: set[str] = set()
+    long = set()
+    behind = set()
     camera = ("", "")
+    angles: list[Field] = []
     known: dict[int, _BlockTexts] = {}  # pages of a TIFF may share a block of many fields
     for block, fields in blocks:
         if id(fields) not in known:
             known[id(fields)] = _texts_of_block(fields, blocks)
             camera = camera if any(camera) or block.kind != EXIF else camera_of(fields)
         captions, left = known[id(fields)]
-        if captions or left:
-            part = "" if block.name == NAMES[block.kind] else block.name
-            texts += [it._replace(block=part) for it in captions] if part else captions
-            long |= left & set(wanted)
+        is_first = block.name == NAMES[block.kind]
+        texts += captions if is_first else [it._replace(block=block.name) for it in captions]
+        angles += of_position(fields) if is_first else []
+        long |= left
         if rest_of(fields):
-            behind |= {word for (where, _), word in LABELLED.items() if where in _DIRECTORIES[block.kind]} & set(wanted)
+            behind |= {word for (where, _), word in LABELLED.items() if where in _DIRECTORIES[block.kind]}
     in_order = with_own(sorted(texts, key=lambda it: STANDARDS.index(it.standard)), *camera)
-    angles = [it for block, fields in blocks if block.name == NAMES[block.kind] for it in of_position(fields)]
-    return PictureTexts(in_order, long, behind, rests_of(blocks), located(angles) if angles else (None, None))
+    position = located(angles) if angles else (None, None)
+    return PictureTexts(in_order, long & {*wanted}, behind & {*wanted}, rests_of(blocks), position)

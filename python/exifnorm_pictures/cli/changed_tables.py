@@ -216,15 +216,16 @@ def print_objects(
     summary = Summary(choice, 1)
     for comparison in comparisons:
         print_object("changed", "picture", {**_members(comparison), "edit": summary.add(comparison) or None})
-    known: Members = {
+    known = {
         "counts": dict(counts),
         "left_out": dict(choice.left_out),
         "labels": choice.labels(),
         "coded_pictures": dict(pictures),
         "edits": [_group_members(it) for it in summary.kinds.groups()],
         "edits_not_grouped": summary.kinds.further,
+        **members_of(choice),
     }
-    print_object("changed", "summary", {**known, **members_of(choice)})
+    print_object("changed", "summary", known)
 
 
 def _group_members(group: Group) -> Members:
@@ -272,11 +273,17 @@ def _note_members(differences: Sequence[NoteDifference] | None) -> Members | Non
 
 def field_members(difference: FieldDifference) -> Members:
     """A field that differs, as an object."""
-    plain = plain_sides(difference)
-    sides = {"before": _side_members(plain[0], difference.before), "after": _side_members(plain[1], difference.after)}
-    key = exact_key(difference.directory, difference.tag)
-    name = {"name": difference.name, "directory": difference.directory, "key": key, "block": difference.block or None}
-    return {**name, **sides, "equal_number": difference.is_equal_number, "note": difference.note or None}
+    before, after = plain_sides(difference)
+    return {
+        "name": difference.name,
+        "directory": difference.directory,
+        "key": exact_key(difference.directory, difference.tag),
+        "block": difference.block or None,
+        "before": _side_members(before, difference.before),
+        "after": _side_members(after, difference.after),
+        "equal_number": difference.is_equal_number,
+        "note": difference.note or None,
+    }
 
 
 def _side_members(plain: str | None, fields: tuple[Field, ...]) -> Members | None:
@@ -305,7 +312,7 @@ def _status(state: State) -> int:
 
 def _lines(state: State) -> Iterator[str]:
     head = f"{local_time(state.when)}  {escaped(state.catalogue)}: "
-    if state.comparison is None:
+    if not state.comparison:
         seen = "there again" if state.is_back else "first seen"
         yield head + (f"{seen} as {shown_path(state.path)}" if state.path is not None else _absent(state, "not there"))
         return
@@ -327,7 +334,12 @@ def _result(comparison: Compared, path: bytes) -> str:
 
 def _state_members(state: State) -> Members:
     comparison = state.comparison
-    members: Members = {"catalogue": state.catalogue, "when": state.when or None, "picture": path_or_none(state.path)}
-    members["result"] = None if comparison is None else comparison.result
-    members["note"] = _ELSEWHERE if state.may_be_elsewhere else (comparison.note or None) if comparison else None
-    return {**members, "fields": [field_members(change) for change in comparison.changes] if comparison else []}
+    note = _ELSEWHERE if state.may_be_elsewhere else comparison and comparison.note
+    return {
+        "catalogue": state.catalogue,
+        "when": state.when or None,
+        "picture": path_or_none(state.path),
+        "result": comparison and comparison.result,
+        "note": note or None,
+        "fields": [field_members(change) for change in comparison.changes] if comparison else [],
+    }

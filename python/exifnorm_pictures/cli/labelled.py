@@ -140,8 +140,13 @@ def is_open(picture: Picture) -> bool:
 
 def members(picture: Picture) -> Members:
     """The beginning of a JSON object."""
-    known = {"refused": refused(picture), "not_read": picture.not_read, "too_many": picture.too_many, **damage_members(picture)}
-    return {**picture_object(picture.path, picture._problem, picture._detail), **known}
+    return {
+        **picture_object(picture.path, picture._problem, picture._detail),
+        "refused": refused(picture),
+        "not_read": picture.not_read,
+        "too_many": picture.too_many,
+        **damage_members(picture),
+    }
 
 
 # The fields of texts
@@ -162,9 +167,10 @@ def together(texts: Sequence[Caption]) -> list[list[Caption]]:
     lines: dict[int, str] = {}  # pages of a TIFF may share a long list
     for text in texts:
         if not text.is_empty:
-            if id(text.texts) not in lines:
-                lines[id(text.texts)] = " ".join(text.line.split())
-            by_text.setdefault(lines[id(text.texts)], []).append(text)
+            key = id(text.texts)
+            if key not in lines:
+                lines[key] = " ".join(text.line.split())
+            by_text.setdefault(lines[key], []).append(text)
     return list(by_text.values())
 
 
@@ -192,15 +198,16 @@ def run(files: Files, run: Run, output: Output) -> int:
 
 def _row(picture: Picture) -> list[Cell]:
     """A row of a table: the text of each label, of several standards one that is whole, and no camera's."""
-    known = conflicts(picture._labelled.texts, picture._labelled.located)
-    texts = [best([one for one in picture._labelled.texts if one.label == word], known) for word in LABEL_WORDS]
+    labelled = picture._labelled
+    known = conflicts(labelled.texts, labelled.located)
+    texts = [best([one for one in labelled.texts if one.label == word], known) for word in LABEL_WORDS]
     problem = [f"{picture._problem}: {picture._detail}"] if picture._problem else []
     rest = "; ".join([*problem, *refused(picture), *unread(picture, not_read(picture)), *picture_cut(picture)])
     return [
         picture.path,
         *texts,
         *(_position(picture) or (None, None)),
-        "; ".join(own_texts(picture._labelled.texts)),
+        "; ".join(own_texts(labelled.texts)),
         "; ".join(one.label for one in known if one.is_real),
         rest,
     ]
@@ -209,7 +216,7 @@ def _row(picture: Picture) -> list[Cell]:
 def _position(picture: Picture) -> list[float]:
     """The degrees, north and east positive; empty without a position."""
     place = picture.position
-    return [] if place is None else [round(place.latitude, 6), round(place.longitude, 6)]
+    return [] if not place else [round(place.latitude, 6), round(place.longitude, 6)]
 
 
 def _lines(picture: Picture) -> Iterator[str]:

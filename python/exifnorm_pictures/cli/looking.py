@@ -92,7 +92,7 @@ def _made(names: Sequence[bytes], run: Run) -> Iterator[Catalogue]:
             raise NoCatalogue("; ".join(closed))
         for name in filter(is_picture, names):
             known = catalogue.known(os.path.abspath(name))
-            if known is None or known.problem == Problem.NO_PICTURE:
+            if not known or known.problem == Problem.NO_PICTURE:
                 raise NoCatalogue(f"{shown_path(name)} is no picture, and no catalogue")
         if not number_of(catalogue, "problem IS NOT 'NoPicture'"):
             note_no_picture(names[0])

@@ -11,7 +11,7 @@ import shutil
 import sys
 import unicodedata
 from collections import Counter
-from itertools import islice
+from itertools import islice, zip_longest
 from typing import TYPE_CHECKING, Any, Iterable, Iterator, Sequence, Union
 
 from ..files import signals
@@ -71,14 +71,9 @@ def columns(rows: Sequence[Sequence[str]], screen: int) -> Iterator[str]:
         if len(row) == 1:
             yield row[0]
             continue
-        cells = [
-            wrapped(row[0], names),
-            wrapped(row[1], first if len(row) > 2 else 2 * column),
-            wrapped(row[2], column) if len(row) > 2 else [""],
-        ]
-        for at in range(max(map(len, cells))):
-            name, before, after = (cell[at] if at < len(cell) else "" for cell in cells)
-            yield f"{_padded(name, names)}  {_padded(before, first)}  {after}".rstrip()
+        wide = (names, first, column) if len(row) > 2 else (names, 2 * column)
+        for name, before, *after in zip_longest(*map(wrapped, row, wide), fillvalue=""):
+            yield f"{_padded(name, names)}  {_padded(before, first)}  {''.join(after)}".rstrip()
 
 
 def _padded(text: str, wanted: int) -> str:
@@ -285,7 +280,7 @@ def local_time(when: str) -> str:
 
 # The versions of commands whose objects have another one than 1. A version grows if a key is renamed or removed, or gets another meaning; a new
 # key alone doesn't count.
-_VERSIONS: dict[str, int] = {"changed": 2}
+_VERSIONS = {"changed": 2}
 
 
 _ENCODER = json.JSONEncoder(allow_nan=False)
@@ -351,9 +346,13 @@ def unread_members(picture: PictureRecord) -> Members:
 
 def record_objects(picture: PictureRecord) -> list[str]:
     """The line for a picture that `index` looked at."""
-    about = {**picture_object(picture.path, picture.problem, picture.detail), "type": picture.type or None}
-    blocks = [one.members for one in picture.blocks]
-    return [line_of("index", "picture", {**about, "blocks": blocks, **unread_members(picture)})]
+    about = {
+        **picture_object(picture.path, picture.problem, picture.detail),
+        "type": picture.type or None,
+        "blocks": [one.members for one in picture.blocks],
+        **unread_members(picture),
+    }
+    return [line_of("index", "picture", about)]
 
 
 # What commands say of the parts of a picture that were not read, and of a file that is cut off or damaged.

@@ -80,8 +80,8 @@ def _damaged(picture: PictureRecord, other: PictureRecord) -> tuple[Coded, str]:
         both = ", and then ".join(dict.fromkeys([picture.damage, other.damage]))
         return Coded.DAMAGED_BOTH, f"{Coded.DAMAGED_BOTH}: {both}"
     # the end of a file is looked for at each look, and other damage only by --pixels
-    is_known = bool(picture.coded_picture) or other.coded_picture is None or other.damage.startswith(CUT)
-    return Coded.DAMAGED, other.damage + ("" if is_known else ", and whether it was so before isn't known")
+    is_known = picture.coded_picture or other.coded_picture is None or other.damage.startswith(CUT)
+    return Coded.DAMAGED, other.damage + ", and whether it was so before isn't known" * (not is_known)
 
 
 # What the coded pictures make of the result of the metadata, if that has changed, if it is equal, and if it is anything else

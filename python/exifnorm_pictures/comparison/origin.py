@@ -107,7 +107,7 @@ class Origin:
 
     def whole(self) -> Whole | None:
         """What is compared of the file, if it is still the one that was read."""
-        if self._whole is None and self._is_unchanged():
+        if not self._whole and self._is_unchanged():
             with contextlib.suppress(OSError, TooMuch):
                 whole = Whole.of(lambda budget: File(*opening.opened(self.path), budget), self.path)
                 self._whole = whole if self._is_unchanged() else None

@@ -25,7 +25,7 @@ from ..scan.looking import look
 from ..scan.walk import FoundFile, How
 from . import origin
 from .changed.states import Compared, Pair, compared
-from .wording import FieldDifference, exact_side, plain_sides
+from .wording import FieldDifference, SideTexts, exact_side, plain_sides
 
 
 Heads = tuple[Optional[bytes], Optional[bytes]]
@@ -36,8 +36,8 @@ class FieldRow(NamedTuple):
     """A field that differs; a side is None if the field isn't there."""
 
     name: str
-    plain: tuple[str | None, str | None]
-    exact: tuple[str | None, str | None]
+    plain: SideTexts
+    exact: SideTexts
     differences: tuple[FieldDifference, ...] = ()
     note: str = ""  # in place of the values
     is_equal_number: bool = False  # whether the field differs only in the form of its number
@@ -76,7 +76,7 @@ def read(path: bytes, how: How, session: Session) -> tuple[PictureRecord, bytes 
     """Reads a picture as `index --pixels` does, always with the digest of its file, if it can be read; and the head of a JPEG, which is that of
     the same file. A file that is written to meanwhile has no head."""
     stamp = Stamp.at(path)
-    if stamp is None and not os.path.lexists(path):
+    if not stamp and not os.path.lexists(path):
         return PictureRecord.of(path, b"", problem=Problem.NO_FILE, detail=Problem.NO_FILE.text), None
     with held(path) as number:
         picture = look(FoundFile(path, os.path.dirname(path), stamp), how, session, packs=False)

@@ -17,12 +17,10 @@ from typing import Iterable, Iterator, NamedTuple, Sequence
 
 from ..catalogue.store import Catalogue
 from ..files import opening
-from ..files.opening import is_hollow
 from ..model.records import BlockRecord, PictureRecord, Stamp, has
-from ..model.columns import Damaged
 from ..model.budgets import HOLES
 from ..model.rest import changes, counting
-from ..model.errors import WrongUse
+from ..model.errors import Damaged, WrongUse
 from ..model.problems import NOT_THERE, TEXTS
 from ..model.texts import Word
 from ..model.verdicts import result_of, verdicts
@@ -63,7 +61,10 @@ class Verified(NamedTuple):
     damage: str = ""  # of the file as it is now, also if it was damaged before
 
 
-def state_of(before: PictureRecord, now: PictureRecord) -> tuple[State, str]:
+_Stated = tuple[State, str]  # the state of a file, and more words about it
+
+
+def state_of(before: PictureRecord, now: PictureRecord) -> _Stated:
     """The state of a file that is there, and more words about it."""
     if not now.sha256:
         return State.UNREADABLE, now.detail or TEXTS.get(now.problem or "", "")
@@ -78,7 +79,7 @@ def state_of(before: PictureRecord, now: PictureRecord) -> tuple[State, str]:
     return _written(before, now)
 
 
-def _written(before: PictureRecord, now: PictureRecord) -> tuple[State, str]:
+def _written(before: PictureRecord, now: PictureRecord) -> _Stated:
     """The state of a file with other bytes."""
     is_same_picture = bool(before.coded_picture) and now.coded_picture == before.coded_picture
     if now.marks == before.marks:  # an edit has another ctime at least
@@ -86,7 +87,7 @@ def _written(before: PictureRecord, now: PictureRecord) -> tuple[State, str]:
     return _written_anew(before, now) if is_same_picture else _other(before, now)
 
 
-def _written_anew(before: PictureRecord, now: PictureRecord) -> tuple[State, str]:
+def _written_anew(before: PictureRecord, now: PictureRecord) -> _Stated:
     """The state of a file with the same coded picture."""
     same = result_of(verdicts(before.sides(), now.sides())).is_equal and before.not_read == now.not_read is not None
     parts = changes(before.beside, now.beside)
@@ -94,7 +95,7 @@ def _written_anew(before: PictureRecord, now: PictureRecord) -> tuple[State, str
     return (State.CAPTIONED if not same else State.PARTS if counting(parts) else State.AGAIN), note
 
 
-def _other(before: PictureRecord, now: PictureRecord) -> tuple[State, str]:
+def _other(before: PictureRecord, now: PictureRecord) -> _Stated:
     """The state of a file that isn't known to have the same picture."""
     if (now.size, now.modified) == (before.size, before.modified):
         return State.ROTTED, "size and time are as before"
@@ -126,7 +127,7 @@ def verified(before: Catalogue, now: Catalogue, folders: Sequence[bytes]) -> Ite
                 yield from _of_sidecar(before, now, sidecar)
             picture = _without_sidecars(picture, blocks)
         there = now.picture(picture.path)
-        if there is None or there.problem in NOT_THERE:
+        if not there or there.problem in NOT_THERE:
             yield _gone(before, now, picture)
         else:
             yield _renumbered(before, now, picture, there) or Verified(picture.path, *state_of(picture, there), damage=there.damage)
@@ -203,7 +204,7 @@ def _of_sidecar(before: Catalogue, now: Catalogue, sidecar: PictureRecord) -> It
     if not now.execute(f"UPDATE {_SIDECARS} SET is_done = 1 WHERE path = ? AND is_done = 0", (sidecar.path,)).rowcount:
         return
     there = now.picture(sidecar.path)
-    if there is None or there.problem in NOT_THERE:
+    if not there or there.problem in NOT_THERE:
         yield _gone(before, now, sidecar)
         return
     state, note = state_of(sidecar, there)
@@ -235,7 +236,7 @@ def _gone(before: Catalogue, now: Catalogue, picture: PictureRecord) -> Verified
 def _has_other_file(before: Catalogue, now: Catalogue, path: bytes, sha256: str) -> bool:
     """Whether a file that is at a path now is known not to have been there."""
     known = before.picture(path)
-    if known is None or _is_of_manifest(known):
+    if not known or _is_of_manifest(known):
         return not _is_known(before, now, path)
     return bool(known.sha256) and known.sha256 != sha256
 
@@ -337,7 +338,7 @@ def digest(path: bytes, is_stopped: threading.Event) -> str:
     """SHA-256 of a file; empty if it can't be read, is mostly holes, or if nobody needs it any more."""
     whole = hashlib.sha256()
     with contextlib.suppress(OSError), opening.reading(path) as file:
-        if is_hollow(file.fileno(), os.fstat(file.fileno()).st_size, HOLES):
+        if opening.is_hollow(file.fileno(), os.fstat(file.fileno()).st_size, HOLES):
             return ""
         while (piece := file.read(CHUNK)) and not is_stopped.is_set():
             whole.update(piece)

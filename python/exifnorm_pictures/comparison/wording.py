@@ -5,7 +5,7 @@ from __future__ import annotations
 import re
 import unicodedata
 from itertools import compress, count
-from typing import Any, Sequence
+from typing import Any, Optional, Sequence
 
 from exifnorm._named import NamedTuple
 
@@ -19,6 +19,7 @@ from ..model.xmp_values import Long
 
 # The fields that differ between two blocks, with their values, and which of them are equal numbers that are only written otherwise.
 
+SideTexts = tuple[Optional[str], Optional[str]]  # of a value before and after
 NUMBERS = "BYTE SHORT LONG WHOLE SSHORT SLONG RATIONAL SRATIONAL".split()
 
 
@@ -99,34 +100,27 @@ def _plain_number(value: Any) -> object:
     return Fraction(above, below) if below else ("no number", (above > 0) - (above < 0))
 
 
-def differences(before: Sequence[Field], after: Sequence[Field], block: str = "") -> list[FieldDifference]:
+def differences(before: Sequence[Field], after: Sequence[Field]) -> list[FieldDifference]:
     """The fields that differ, in the order of a listing; values of a repeated DataSet are compared as one list.
 
     >>> [it.name for it in differences([Field("main", "010f", "ASCII", 2, b"a\\0")], [Field("main", "010f", "ASCII", 2, b"b\\0")])]
     ['IFD0:Make']
     """
-    first, second = _by_name(before), _by_name(after)
-    differ = [key for key in {*first, *second} if first.get(key) != second.get(key)]
-    directories = [{where for where, _ in side} for side in (first, second)]
-    return [
-        FieldDifference(*key, tuple(first.get(key, ())), tuple(second.get(key, ())), block, _directory(key[0], directories))
-        for key in sorted(differ, key=order_of)
-    ]
-
-
-def _directory(where: str, there: Sequence["set[str]"]) -> str:
-    """The directory of a field, if only one of two blocks has it."""
-    return "" if all(where in it for it in there) else group_of(where)
-
-
-def _by_name(fields: Sequence[Field]) -> dict[tuple[str, str], list[Field]]:
-    return grouped(((it.directory, it.tag), it) for it in fields)
+    first, second = (grouped(((it.directory, it.tag), it) for it in side) for side in (before, after))
+    directories = {where for where, _ in first} & {where for where, _ in second}
+    found = []
+    for key in sorted({*first, *second}, key=order_of):
+        old, new = tuple(first.get(key, ())), tuple(second.get(key, ()))
+        if old != new:
+            part = "" if key[0] in directories else group_of(key[0])
+            found.append(FieldDifference(*key, old, new, part=part))
+    return found
 
 
 NONE = "(none)"  # in place of a value that isn't there
 
 
-def sides(difference: FieldDifference, exactly: bool = False) -> tuple[str | None, str | None]:
+def sides(difference: FieldDifference, exactly: bool = False) -> SideTexts:
     """Both values of a field in one line: plain, or exact if that is asked for or if both look alike. None where there is no such field.
 
     >>> sides(FieldDifference("main", "0112", (), (Field("main", "0112", "SHORT", 1, (6,)),)))
@@ -138,7 +132,7 @@ def sides(difference: FieldDifference, exactly: bool = False) -> tuple[str | Non
     return told_apart(texts[0], texts[1])
 
 
-def told_apart(before: str | None, after: str | None) -> tuple[str | None, str | None]:
+def told_apart(before: str | None, after: str | None) -> SideTexts:
     """Two texts that differ. Of those that look alike, as letters with accents of their own do, the numbers of the characters that don't show.
 
     >>> told_apart("Z\u00fcrich", "Zu\u0308rich"), told_apart("a b", "a\u00a0b"), told_apart("Otto", "Otto ")
@@ -199,7 +193,7 @@ def _number(character: "re.Match[str]") -> str:
     return f"<U+{ord(character[0]):04X}>"
 
 
-def plain_sides(difference: FieldDifference) -> tuple[str | None, str | None]:
+def plain_sides(difference: FieldDifference) -> SideTexts:
     """Both values as they are, without quotes and escapes, for tables and programs; exact if both look alike.
 
     >>> plain_sides(FieldDifference("main", "013b", (), (Field("main", "013b", "ASCII", 5, b"Otto\\0"),)))
@@ -262,15 +256,15 @@ def _joined(steps: Sequence[Step]) -> list[Step]:
     joined: list[Step] = []
     out, put = "", ""
     left = [it for it in steps if it.text]
-    for at, step in enumerate(left):
+    for at, step in enumerate([*left, Step(KEPT, "")]):
         is_between = 0 < at < len(left) - 1 and step.sign == KEPT and not any(map(str.isalnum, step.text))
         if step.sign != KEPT or is_between:
             out += step.text * (step.sign != IN)
             put += step.text * (step.sign != OUT)
             continue
-        joined += [Step(OUT, out)] * bool(out) + [Step(IN, put)] * bool(put) + [step]
+        joined += [it for it in (Step(OUT, out), Step(IN, put), step) if it.text]
         out, put = "", ""
-    return joined + [Step(OUT, out)] * bool(out) + [Step(IN, put)] * bool(put)
+    return joined
 
 
 class Marker:

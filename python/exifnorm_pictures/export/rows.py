@@ -13,7 +13,7 @@ from ..catalogue.store import Catalogue
 from ..catalogue.texts import texts_of
 from ..comparison.same.group import Keep, keeping, sentence_of
 from ..comparison.same.groups import Groups
-from ..fields.packing import divided, field_of, unpacked
+from ..fields.packing import BlockFields, divided, field_of, unpacked
 from ..fields.field import Field
 from ..fields.labels import Caption, names_camera, word_of
 from ..fields.listing import is_rest
@@ -24,10 +24,9 @@ from ..fields.typed import number_of
 from ..files import signals
 from ..files.session import Session
 from ..model import steps
-from ..model.records import BLOCKS, BlockRecord, PictureRecord, block_of_row, not_read_of_row
-from ..model.columns import Damaged
+from ..model.records import BLOCKS, BlockRecord, PictureRecord, Row, block_of_row, not_read_of_row
 from ..model.budgets import CACHED, SQL_STEPS, WAITING_BYTES
-from ..model.errors import Failure
+from ..model.errors import Damaged, Failure
 from ..model.texts import path_members
 from ..scan.progress import Progress
 
@@ -223,8 +222,6 @@ _POSITIONS = "CREATE TEMP TABLE positions (picture INTEGER PRIMARY KEY, latitude
 _PLACE = """UPDATE pictures SET (latitude, longitude) = (SELECT latitude, longitude FROM positions WHERE picture = id)
     WHERE id IN (SELECT picture FROM positions)"""
 
-Row = tuple[object, ...]
-
 
 class Tables:
     """The tables of a new file, which are filled row by row in memory that doesn't grow with them."""
@@ -390,7 +387,7 @@ class Export:
         values = reading.values.items() if reading else ()
         self.tables.add("maker_notes", [(picture, at, *value) for at, value in enumerate(values)])
 
-    def _texts(self, picture: int, blocks: Sequence[tuple[BlockRecord, list[Field]]]) -> None:
+    def _texts(self, picture: int, blocks: Sequence[BlockFields]) -> None:
         texts = texts_of(blocks)
         missing = texts.missing
         self.missing += bool(missing)

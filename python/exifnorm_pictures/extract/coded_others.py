@@ -22,7 +22,7 @@ from ..model.tiff_types import IFD, LONG, LONG8, SHORT
 from .coded_picture import Add, NotFollowed, refuse_if
 from .formats import heif, jxl, png, tiff, webp
 from .formats.boxes import XMP_UUID, Box, Fields, boxes, boxes_to_fault, content, credentials_in
-from .formats.packet_start import begins_packet
+from ..model.xmp_encodings import begins_packet
 from .formats.streams import (
     CREDENTIALS,
     METADATA,
@@ -362,7 +362,7 @@ def _order(directories: Directories, entries: Entries) -> bytes:
     return directories.order.encode("ascii") if has_order else b""
 
 
-def _strips(directories: Directories, page: Directory, entries: Entries, coded: "hashlib.blake2b") -> Iterator[tuple[int, int]]:
+def _strips(directories: Directories, page: Directory, entries: Entries, coded: "hashlib.blake2b") -> Iterator[Range]:
     """The ranges of the strips, tiles and JPEGs of a page, after their lengths, which are added. Raises `Broken`."""
     there = {tag: other for tag, other in _OFFSETS.items() if tag in entries or other in entries}
     refuse_if({_STRIPS, _TILES} <= there.keys(), "strips and tiles in one directory")
@@ -407,13 +407,13 @@ def _uncompressed(directories: Directories, entries: Entries) -> tuple[int, int,
     return count, row * rows, row * (height - (count - 1) * rows)
 
 
-def _joined(ranges: Iterator[tuple[int, int]]) -> Iterator[tuple[int, int]]:
+def _joined(ranges: Iterator[Range]) -> Iterator[Range]:
     """The same bytes in the same order, in fewer ranges.
 
     >>> list(_joined(iter([(2, 5), (5, 9), (1, 2)])))
     [(2, 9), (1, 2)]
     """
-    last: list[int] | None = None
+    last = None
     for start, end in ranges:
         if last and start == last[1]:
             last[1] = end

@@ -25,6 +25,8 @@ from . import programs, raw_files
 from .formats.streams import Stream, digest_of, size_of
 from .programs import Failed, TooSlow
 
+_Object = dict[str, str]  # what ExifTool says of a file, by the names that were asked for
+
 _WORDS_LENGTH = 1000  # characters that are kept of a type or an error
 _WORDS = ("-EXIF:Exif", "-IPTC:IPTC", "-XMP:XMP", "-FileType#", "-MIMEType#", "-Error#")
 _TAGS = {"EXIF": EXIF, "IPTC": IPTC, "XMP": XMP}
@@ -50,7 +52,7 @@ class Process:
         self.number = 0
         self.process = programs.start(programs.exiftool("-stay_open", "True", "-@", "-"), room, is_asked=True)
 
-    def ask(self, paths: Sequence[bytes], words: Sequence[str], options: Sequence[str]) -> list[dict[str, str]]:
+    def ask(self, paths: Sequence[bytes], words: Sequence[str], options: Sequence[str]) -> list[_Object]:
         """The tags of some files for the arguments `words`, each by its copy and name as in `Copy1:IPTC`. Raises `Failed`."""
         self.number += 1
         names = [self._handed_over(path, number) for number, path in enumerate(paths)]
@@ -90,7 +92,7 @@ class Process:
         programs.end(self.process)
 
 
-def _members(output: bytes, names: Sequence[bytes]) -> list[dict[str, str]]:
+def _members(output: bytes, names: Sequence[bytes]) -> list[_Object]:
     """The object in an output about each file. Raises `Failed` for anything else."""
     if not output.strip():
         return [{} for _ in names]
@@ -113,19 +115,19 @@ def _process(session: Session) -> Process:
     if not session.programs:
         raise programs.Missing("exiftool", may_start=False)
     tool = cast("Process | None", session.tool)
-    if tool is not None and tool.process.poll() is not None:
+    if tool and tool.process.poll() is not None:
         session.close_tool()  # it ended between two questions
-    if session.tool is None:
+    if not session.tool:
         session.tool = Process(session.folder(), session.seconds)
     return cast(Process, session.tool)
 
 
-def ask(session: Session, path: bytes, words: Sequence[str]) -> dict[str, str]:
+def ask(session: Session, path: bytes, words: Sequence[str]) -> _Object:
     """ExifTool's tags of one file. If it fails, a new ExifTool reads the next file."""
     return ask_several(session, [path], words)[0]
 
 
-def ask_several(session: Session, paths: Sequence[bytes], words: Sequence[str], options: Sequence[str] = _OPTIONS) -> list[dict[str, str]]:
+def ask_several(session: Session, paths: Sequence[bytes], words: Sequence[str], options: Sequence[str] = _OPTIONS) -> list[_Object]:
     """ExifTool's tags of some files, which are asked for in one call."""
     try:
         with session.clock(b"\0".join(paths)) as seconds:
@@ -153,7 +155,7 @@ def octets(value: str) -> bytes:
         raise Failed("ExifTool's answer isn't understood: a block is no base64") from None
 
 
-def values(answer: dict[str, str], tag: str) -> list[str]:
+def values(answer: _Object, tag: str) -> list[str]:
     """All copies of a tag in an output, the first one first."""
     return [value for name, value in answer.items() if name.rpartition(":")[2] == tag]
 
@@ -174,11 +176,11 @@ def by_others(session: Session, path: bytes, stream: Stream, whole: bool, why: s
     return blocks
 
 
-def _first(answer: dict[str, str], tag: str) -> str:
+def _first(answer: _Object, tag: str) -> str:
     return next(iter(values(answer, tag)), "")[:_WORDS_LENGTH]
 
 
-def _blocks(answer: dict[str, str]) -> Blocks:
+def _blocks(answer: _Object) -> Blocks:
     """The blocks in an output of ExifTool."""
     blocks = Blocks(extractor=EXIFTOOL, type=_first(answer, "FileType"))
     for tag, kind in _TAGS.items():

@@ -47,7 +47,7 @@ def blocks_of_file(
 def blocks_in(file: Parts, path: bytes, whole: bool = False, session: Session | None = None) -> Blocks:
     """The blocks of a file that is open, which is closed then. The ending of its name shows what a sidecar or a raw picture is. Raises what
     `blocks_of_file` raises, `OSError` and `TooMuch`."""
-    if session is None:
+    if not session:
         with Session() as own:
             return blocks_in(file, path, whole, own)
     try:

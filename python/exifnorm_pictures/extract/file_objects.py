@@ -109,7 +109,7 @@ def own_errors() -> Iterator[None]:
 
 def _place(source: IO[bytes]) -> int:
     with own_errors():
-        answer: object = source.tell()
+        answer = source.tell()
         place = int(answer) if isinstance(answer, int) else -1
     if not 0 <= place < _LONGEST:
         shown = f"{place!r:.40}" if isinstance(answer, int) else type(answer).__name__
@@ -128,7 +128,7 @@ def _seek(source: IO[bytes], place: int, whence: int = os.SEEK_SET) -> None:
 def _some(source: BinaryFile, most: int) -> bytes:
     """The next bytes of a file object, `most` at most; none at its end."""
     with own_errors():
-        data: object = source.read(most)
+        data = source.read(most)
         octets = bytes(data) if isinstance(data, (bytes, bytearray, memoryview)) else None
     if data is None:
         raise BlockingIOError(errno.EAGAIN, "the file object has no bytes yet")

@@ -112,7 +112,7 @@ _libc = ctypes.CDLL(None)
 
 def start(words: list[str], folder: str | None = None, is_asked: bool = False) -> "subprocess.Popen[bytes]":
     """Starts a program in a process group of its own, which the system ends if this process is killed. It has an input if it is asked. Raises `Failed`."""
-    started: "subprocess.Popen[bytes] | None" = None
+    started = None
     try:
         with signals.signals_held() as mask:
             started = _started(words, folder, is_asked, mask)
@@ -120,7 +120,7 @@ def start(words: list[str], folder: str | None = None, is_asked: bool = False) -
     except OSError as error:
         raise Failed(f"{_name(words)} can't be started: {reason(error)}") from error
     except BaseException:  # a signal that came meanwhile
-        if started is not None:
+        if started:
             end(started)
         raise
 

@@ -10,7 +10,7 @@ from ..model.budgets import PACKET_BYTES, TooMuch, budget_of
 from ..model.found import XMP, XMP_FILE, Blocks, LeftToOthers
 from . import raw_files
 from .formats import cr3, gif, heif, jp2, jpeg, jxl, png, psd, raf, tiff, webp
-from .formats.packet_start import begins_packet
+from ..model.xmp_encodings import begins_packet
 from .formats.streams import HEAD as FIRST, Stream, read_at, size_of
 
 HEAD = 16  # bytes of a file that show its format
@@ -50,7 +50,7 @@ def read_packet(stream: Stream, whole: bool = False) -> Blocks:
     return blocks
 
 
-FORMATS: tuple[Format, ...] = (
+FORMATS = (
     Format("JPEG", lambda head, _: head.startswith(jpeg.START), jpeg.read),
     Format("PNG", lambda head, _: head.startswith(png.START), png.read),
     Format("WebP", lambda head, _: webp.is_webp(head[:12]), webp.read),

@@ -24,7 +24,7 @@ def plain_date(text: str) -> str:
     ('2019-03-12 11:20:45', '2026-12-03', '2019-03-12 11:20:45+01:00', '')
     """
     match = _ANY.fullmatch(text.strip())
-    if match is None or (match[3] and not match[2] and not match[4]):
+    if not match or (match[3] and not match[2] and not match[4]):
         return ""
     day = "-".join(filter(None, match.group(1, 3, 4)))
     clock = ":".join(filter(None, match.group(5, 6, 7)))
@@ -38,7 +38,7 @@ def asked_date(text: str) -> str:
     ('1950-03', '', 10)
     """
     match = _TODAY.fullmatch(" ".join(text.split()))
-    if match is None:
+    if not match:
         day = plain_date(text)
         return "" if is_impossible(day) else day
     number = int(match[1] or match[4] or 0) * (-1 if match[3] == "-" else 1)
@@ -78,7 +78,7 @@ def is_impossible(day: str) -> bool:
     [False, False, True]
     """
     match = _WHOLE.fullmatch(day.replace("T", " "))
-    if match is None:
+    if not match:
         return False
     year, month, number, hour, minute, second = (int(it or 0) for it in match.groups())
     try:

@@ -15,8 +15,8 @@ from .names import TABLES, group_name, group_of, name_of, plain_name
 
 # ExifTool's and exiv2's prefixes where they are others, and ExifTool's of namespaces that have none here
 _OTHER_PREFIXES = {"Iptc4xmpCore": ("iptcCore", "iptc"), "Iptc4xmpExt": ("iptcExt",), "MicrosoftPhoto": ("microsoft",)}
-_SPACES: dict[str, str] = dict(line.split() for line in other_names.SPACES.strip().splitlines())
-_NAMES: dict[str, Sequence[str]] = {key: names.split(",") for key, _, names in (word.partition("=") for word in other_names.NAMES.split())}
+_SPACES = dict(line.split() for line in other_names.SPACES.strip().splitlines())
+_NAMES = {key: names.split(",") for key, _, names in (word.partition("=") for word in other_names.NAMES.split())}
 _EXIV2 = {"main": "Exif.Image", "exif": "Exif.Photo", "gps": "Exif.GPSInfo", "interop": "Exif.Iop", "thumb": "Exif.Thumbnail"}
 
 # Properties of the Adobe XMP Specification (parts 1 and 2) and of the IPTC Photo Metadata Standard; those of Exif and TIFF have the names of

@@ -124,7 +124,7 @@ def number_of(text: str) -> Number | None:
         value = float(Fraction(above) / int(below)) if len(text) < 100 else float(above) / float(below)
         return Number(value, abs(value) * 1e-9)
     angle = _COORDINATE.fullmatch(text.strip()) or _ANGLE.fullmatch(text.strip())
-    if angle is None:
+    if not angle:
         return None
     degrees, minutes, seconds, letter = angle.groups("0")
     value = abs(float(degrees)) + float(minutes) / 60 + float(seconds) / 3600

@@ -12,7 +12,7 @@ from typing import Iterable, Iterator, NamedTuple, Sequence
 from ..model.found import EXIF, IPTC, NAMES, SIDECAR, XMP
 from ..model.xmp_values import Long, texts_in
 from .field import Field
-from .names import group_name, plain_name
+from .names import group_name
 from .plain_texts import decoded, text_of_comment, utf_16
 
 # Texts that a camera or a program writes by itself, in the place of a caption that a person would write.
@@ -122,8 +122,15 @@ RIGHTS_END, EMBARGO, DIGITAL_SOURCE, DATA_MINING = "rights end", "embargo", "dig
 PERSON_SHOWN = "person shown"
 # No labels of captions either, but of fields that are asked for: which camera, lens and owner a picture is of, which a MakerNote may have, too
 # (only ExifTool reads it); until when, from when and for what it may be used; whether a program has made it; and who is shown
+
+
+def _fields(text: str) -> tuple[tuple[str, str], ...]:
+    """Fields by their directories and tags, as `exif/a430 xmp/aux:OwnerName`."""
+    return tuple((where, key) for it in text.split() for where, _, key in [it.partition("/")])
+
+
 OF_FIELDS = {
-    word: tuple((where, key) for it in places.split() for where, _, key in [it.partition("/")])
+    word: _fields(places)
     for row in f"""
 serial= exif/a431 exif/a435 main/c62f xmp/exifEX:BodySerialNumber xmp/exifEX:LensSerialNumber xmp/aux:SerialNumber xmp/aux:LensSerialNumber
 owner= exif/a430 xmp/exifEX:CameraOwnerName xmp/aux:OwnerName
@@ -150,7 +157,8 @@ def is_in_maker_notes(word: str) -> bool:
 
 # The tags of Exif that XMP has too, beside the properties of labels
 _MIRRORS = {"010e": "tiff:ImageDescription", "013b": "tiff:Artist", "8298": "tiff:Copyright", "9003": "exif:DateTimeOriginal"}
-_POSITION = "0001 0002 0003 0004 0005 0006".split()
+_OF_POSITION = """gps/0001 gps/0002 gps/0003 gps/0004 gps/0005 gps/0006
+xmp/exif:GPSLatitude xmp/exif:GPSLongitude xmp/exif:GPSAltitudeRef xmp/exif:GPSAltitude"""
 
 
 @functools.lru_cache(maxsize=1)
@@ -161,22 +169,18 @@ def fields_by_label() -> dict[str, tuple[str, ...]]:
     ('IFD0:Artist', 'IPTC:By-line', 'XMP-dc:creator', 'XMP-tiff:Artist', 'IFD0:XPAuthor')
     """
     by_label = {it.word: _fields_of(it) for it in LABELS}
-    by_label[DATE] += [("exif", "9291"), ("exif", "9011"), ("iptc", "2:60")]
-    by_label[COMMENT] = [("exif", "9286"), ("xmp", "exif:UserComment")]
+    by_label[DATE] += _fields("exif/9291 exif/9011 iptc/2:60")
+    by_label[COMMENT] = _fields("exif/9286 xmp/exif:UserComment")
     for tag, word in WINDOWS.items():
-        by_label[word].append(("main", tag))
-    by_label[POSITION] = [
-        *(("gps", it) for it in _POSITION),
-        *(("xmp", f"exif:{plain_name('gps', it)}") for it in ("0002", "0004", "0005", "0006")),
-    ]
-    by_label.update({word: list(fields) for word, fields in OF_FIELDS.items()})
-    return {word: tuple(group_name(*it) for it in fields) for word, fields in by_label.items()}
+        by_label[word] += (("main", tag),)
+    by_label[POSITION] = _fields(_OF_POSITION)
+    return {word: tuple(group_name(*it) for it in fields) for word, fields in {**by_label, **OF_FIELDS}.items()}
 
 
-def _fields_of(label: Label) -> list[tuple[str, str]]:
-    exif = ("exif" if label.word == DATE else "main", label.exif)
-    places = [exif, ("iptc", label.iptc), ("xmp", label.xmp), ("xmp", _MIRRORS.get(label.exif, ""))]
-    return [(where, key) for where, key in places if key]
+def _fields_of(label: Label) -> tuple[tuple[str, str], ...]:
+    exif = "exif" if label.word == DATE else "main"
+    keys = (label.exif, label.iptc, label.xmp, _MIRRORS.get(label.exif))
+    return tuple((where, key) for where, key in zip((exif, "iptc", "xmp", "xmp"), keys) if key)
 
 
 @functools.lru_cache(maxsize=1)
@@ -249,8 +253,7 @@ _XMP = {it.xmp: it.word for it in LABELS if it.xmp}
 # The label of each field that has a part in one, by its directory and its tag
 LABELLED = {
     (directory, tag): word
-    for directories, words in ((("main", "exif"), _EXIF), (("iptc",), _IPTC), (("xmp",), _XMP))
-    for directory in directories
+    for directory, words in (("main", _EXIF), ("exif", _EXIF), ("iptc", _IPTC), ("xmp", _XMP))
     for tag, word in words.items()
 }
 
@@ -295,10 +298,14 @@ _IN_EXIF = "9003 9011 9286 9291".split()  # the tags whose directory is that of 
 _NUMBERS = {tag: number for number, label in enumerate(LABELS) for tag in (label.exif, label.iptc) if tag}
 
 
+_ByTag = dict[str, Field]
+_Record = dict[str, list[bytes]]  # of IPTC
+
+
 def _of_octets_fields(fields: Sequence[Field]) -> Iterator[Caption]:
     """The texts of a block of Exif or IPTC, by its fields."""
-    exif: dict[str, Field] = {}
-    record: dict[str, list[bytes]] = {}
+    exif: _ByTag = {}
+    record: _Record = {}
     for field in fields:
         if isinstance(field.content, bytes) and field.directory == "iptc":
             record.setdefault(field.tag, []).append(field.content)
@@ -312,7 +319,7 @@ def _of_octets_fields(fields: Sequence[Field]) -> Iterator[Caption]:
     yield from _extra(exif)
 
 
-def _of_label(label: Label, exif: dict[str, Field], record: dict[str, list[bytes]]) -> Iterator[Caption]:
+def _of_label(label: Label, exif: _ByTag, record: _Record) -> Iterator[Caption]:
     """The texts of a label that is no date."""
     if label.exif in exif:
         field = exif[label.exif]
@@ -326,11 +333,9 @@ def _of_label(label: Label, exif: dict[str, Field], record: dict[str, list[bytes
 def with_own(texts: Sequence[Caption], make: str = "", model: str = "") -> list[Caption]:
     """The texts of a picture, of which captions and comments are marked that a camera with this make and model, or a program, writes by
     itself; also where another program has copied them to IPTC or XMP."""
-    known: dict[int, bool] = {}  # pages of a TIFF may share a long text
-    for text in texts:
-        if text.label in _CAN_BE_OWN and id(text.texts) not in known:
-            known[id(text.texts)] = is_own(text.line, make, model)
-    return [text._replace(is_own=True) if text.label in _CAN_BE_OWN and known[id(text.texts)] else text for text in texts]
+    possible = {id(it.texts): it.line for it in texts if it.label in _CAN_BE_OWN}  # pages of a TIFF may share a long text
+    own = {key for key, line in possible.items() if is_own(line, make, model)}
+    return [it._replace(is_own=True) if it.label in _CAN_BE_OWN and id(it.texts) in own else it for it in texts]
 
 
 def names_camera(field: Field) -> bool:
@@ -361,7 +366,7 @@ def _of_octets(word: str, standard: str, field: str, values: Sequence[bytes], is
     return Caption(word, standard, field, tuple(text.strip(" \0") for text in texts), tuple(values), guess)
 
 
-def _extra(exif: dict[str, Field]) -> Iterator[Caption]:
+def _extra(exif: _ByTag) -> Iterator[Caption]:
     """The comment, and what Windows writes."""
     for tag in ("9286", *WINDOWS):
         if tag in exif:
@@ -373,7 +378,7 @@ def _extra(exif: dict[str, Field]) -> Iterator[Caption]:
 # Dates
 
 
-def _dates(exif: dict[str, Field], record: dict[str, list[bytes]]) -> Iterator[Caption]:
+def _dates(exif: _ByTag, record: _Record) -> Iterator[Caption]:
     """The date of the picture, with its time and its parts of a second, if they are there."""
     taken, part, zone = (_ascii(_octets(exif.get(tag))) for tag in ("9003", "9291", "9011"))
     if "9003" in exif:

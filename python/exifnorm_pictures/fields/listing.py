@@ -134,7 +134,7 @@ def _exact_long(field: Field, value: xmp_values.Long) -> str:
 
 def _exact_octets(field: Field, octets: bytes) -> str:
     marked = marked_text(field, octets)
-    if marked is not None:
+    if marked:
         return marked[0] + quoted(marked[1])
     return f"0x{octets.hex()}" if len(octets) <= LONGEST_BYTES else f"0x{octets[:8].hex()}.. sha256:{digest_of(octets)}"
 

@@ -11,7 +11,7 @@ import re
 from ..model.budgets import CACHED
 
 
-DIRECTORIES: dict[str, str] = {
+DIRECTORIES = {
     "main": "main directory (0th IFD)",
     "exif": "Exif directory",
     "interop": "Interoperability directory",
@@ -151,7 +151,7 @@ CountryPrimaryLocationCode Country-PrimaryLocationCode CountryPrimaryLocationNam
 CaptionAbstract Caption-Abstract WriterEditor Writer-Editor ObjectDataPreviewFileFormat ObjectPreviewFileFormat
 ObjectDataPreviewFileFormatVersion ObjectPreviewFileVersion ObjectDataPreviewData ObjectPreviewData
 """.split()
-_NAMES: dict[str, str] = dict(zip(_WORDS[0::2], _WORDS[1::2]))
+_NAMES = dict(zip(_WORDS[0::2], _WORDS[1::2]))
 _PICTURES = {"jpeg": "ThumbnailImage", "strip": "ThumbnailTIFF"}
 
 

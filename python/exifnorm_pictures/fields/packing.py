@@ -16,12 +16,12 @@ import hashlib
 import json
 import zlib
 from functools import partial
-from typing import Any, Callable, Generic, Iterable, Iterator, Sequence, TypeVar
+from typing import Any, Callable, Generic, Iterable, Iterator, Optional, Sequence, TypeVar
 
 from exifnorm._named import NamedTuple
 
 from ..model.records import BlockRecord
-from ..model.columns import Damaged
+from ..model.errors import Damaged
 from ..model.budgets import FIELD_BYTES, KEPT_BYTES, LINES_BYTES, NESTED
 from ..model.xmp_values import Array, Literal, Long, Structure, Uri, XmpValue
 from .field import Content, Field
@@ -49,13 +49,16 @@ def is_short(octets: bytes) -> bool:
     return len(octets) <= _SHORTEST
 
 
-def joined(texts: Sequence[bytes | None]) -> list[bytes | None]:
+_Cells = list[Optional[bytes]]
+
+
+def joined(texts: Sequence[bytes | None]) -> _Cells:
     """What a catalogue keeps of the packed fields of a picture's blocks, by block: all of them with the first block that has fields.
 
     >>> joined([None, b"[7]", None, b"[8]"])
     [None, b'[7]\\n\\n[8]', None, None]
     """
-    cells: list[bytes | None] = [None] * len(texts)
+    cells: _Cells = [None] * len(texts)
     for first, text in enumerate(texts):
         if text:
             cells[first] = _compressed(b"\n".join([text or b"" for text in texts[first:]]))
@@ -63,7 +66,7 @@ def joined(texts: Sequence[bytes | None]) -> list[bytes | None]:
     return cells
 
 
-def parted(cells: Iterable[bytes | None]) -> list[bytes | None]:
+def parted(cells: Iterable[bytes | None]) -> _Cells:
     """The packed fields of a picture's blocks, from the result of `joined`. Raises `Damaged`, also if they are more than `index` keeps.
 
     >>> parted(joined([None, b"[7]", None, b"[8]", None])), parted(joined([b"[7]" * 999, b"[8]"])) == [b"[7]" * 999, b"[8]"]
@@ -319,6 +322,7 @@ def _list(value: Any) -> list[Any]:
 # The fields of a block, of one that was judged just now and of one that a catalogue has.
 
 Made = TypeVar("Made")
+BlockFields = tuple[BlockRecord, list[Field]]
 
 
 class Once(Generic[Made]):
@@ -344,7 +348,7 @@ class Fields(Once["list[Field] | None"]):
     __slots__ = ()
 
 
-def _unpacked(texts: Once[list[bytes | None]], number: int) -> list[Field] | None:
+def _unpacked(texts: Once[_Cells], number: int) -> list[Field] | None:
     text = texts.all()[number]
     return unpacked(text) if text else None
 
@@ -371,6 +375,6 @@ def fields_of(block: BlockRecord) -> list[Field]:
     return known_fields(block) or []
 
 
-def rests_of(blocks: Iterable[tuple[BlockRecord, list[Field]]]) -> list[str]:
+def rests_of(blocks: Iterable[BlockFields]) -> list[str]:
     """What is said of blocks that have more fields than are kept: a text may be among these."""
     return [f"the fields of {block.name}{rest}" for block, fields in blocks for rest in [rest_of(fields)] if rest]

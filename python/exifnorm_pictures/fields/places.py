@@ -33,7 +33,7 @@ def place_of(text: str) -> Place | None:
     (Place(latitude=-33.5, longitude=7.202167), None)
     """
     match = re.fullmatch(r"(-?\d{1,2}(?:\.\d+)?)(?:° ?([NS]))?, ?(-?\d{1,3}(?:\.\d+)?)(?:° ?([EW]))?", text.strip())
-    if match is None:
+    if not match:
         return None
     return Place(float(match[1]) * (-1 if match[2] == "S" else 1), float(match[3]) * (-1 if match[4] == "W" else 1))
 
@@ -95,10 +95,13 @@ def located(fields: Iterable[Field]) -> tuple[Located | None, Located | None]:
     return exif, _located(_of_xmp(properties.get("exif:GPSLatitude"), "NS"), _of_xmp(properties.get("exif:GPSLongitude"), "EW"))
 
 
-def _by_tag(fields: Iterable[Field]) -> tuple[dict[str, Field], dict[str, Field]]:
+_ByTag = dict[str, Field]
+
+
+def _by_tag(fields: Iterable[Field]) -> tuple[_ByTag, _ByTag]:
     """The fields of GPS in Exif, and those in XMP."""
-    gps: dict[str, Field] = {}
-    properties: dict[str, Field] = {}
+    gps: _ByTag = {}
+    properties: _ByTag = {}
     for field in fields:
         if field.directory == "gps":
             gps.setdefault(field.tag, field)
@@ -236,11 +239,11 @@ def _of_exif(angle: Field | None, letter: Field | None) -> Angle | None:
 
 def _of_xmp(field: Field | None, signs: str) -> Angle | None:
     """An angle of XMP: `54,59,22.8N` or `54,59.38N` (XMP part 2, 8.7.5)."""
-    if field is None or not isinstance(field.content, tuple):
+    if not field or not isinstance(field.content, tuple):
         return None
     text = next(iter(texts_in(field.content[0])), "").strip()  # type: ignore[arg-type]
     match = re.fullmatch(r"(\d{1,3}),(\d{1,2}(?:\.\d+)?)(?:,(\d{1,2}(?:\.\d+)?))?([NSEW])", text)
-    if match is None or match[4] not in signs:
+    if not match or match[4] not in signs:
         return None
     angle = Fraction(match[1]) + Fraction(match[2]) / 60 + Fraction(match[3] or 0) / 3600
     last = min(Fraction(1, 10 ** len(part.partition(".")[2])) / 60**at for at, part in ((1, match[2]), (2, match[3])) if part)

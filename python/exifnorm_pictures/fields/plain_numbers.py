@@ -174,7 +174,7 @@ def date(field: Field) -> str | None:
     if not text.strip(" :0"):
         return UNKNOWN
     match = re.match(_DATE, text.strip(" \0"))
-    if match is None:
+    if not match:
         return None
     day = "-".join(match.group(1, 2, 3))
     time = f" {match[4]}:{match[5]}" + (f":{match[6]}" if match[6] else "") if match[4] else ""
@@ -184,7 +184,7 @@ def date(field: Field) -> str | None:
 def iptc_date(field: Field) -> str | None:
     """A date of IIM, CCYYMMDD."""
     match = re.fullmatch(r"(\d{4})(\d\d)(\d\d)", text_of(field) or "")
-    return None if match is None else UNKNOWN if match[1] == "0000" else "-".join(match.groups())
+    return None if not match else UNKNOWN if match[1] == "0000" else "-".join(match.groups())
 
 
 def iptc_time(field: Field) -> str | None:

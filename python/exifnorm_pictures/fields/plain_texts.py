@@ -35,7 +35,7 @@ def text_of(field: Field) -> str | None:
     """
     value = kept_value(field)
     marked = marked_text(field, value) if isinstance(value, bytes) else None
-    return None if marked is None else marked[1]
+    return None if not marked else marked[1]
 
 
 def is_utf8(octets: bytes) -> bool:

@@ -12,7 +12,6 @@ from ..model.xmp_values import Literal
 from . import plain_numbers as numbers
 from .field import Field
 from .listing import DATASET_DATES, DATASET_NUMBERS, DATASET_TIMES, OCTETS, exact, is_comment, kept_value, marked_text, shortened
-from .plain_numbers import direction
 from .plain_texts import EMPTY, guessed, plain_comment, plain_xmp, text_of
 
 # Words for numbers: TIFF 6.0 and CIPA DC-008 (Exif 2.32), 4.6
@@ -82,7 +81,7 @@ def _byte(*words: str) -> numbers.Rule:
     return lambda it: known.get(it.content) if isinstance(it.content, bytes) else None
 
 
-_EXIF: dict[str, numbers.Rule] = {
+_EXIF = {
     **{key: _table(words) for key, words in WORDS.items()},
     **dict.fromkeys(("0132", "9003", "9004"), numbers.date),
     **dict.fromkeys(("9202", "9205"), numbers.aperture_value),
@@ -100,11 +99,11 @@ _EXIF: dict[str, numbers.Rule] = {
     "9000": numbers.version,
     "a000": numbers.version,
 }
-_GPS: dict[str, numbers.Rule] = {
+_GPS = {
     **dict.fromkeys(("0002", "0004", "0014", "0016"), numbers.angle),
     **dict.fromkeys(("000f", "0011", "0018"), numbers.with_unit("°", 2)),
     **dict.fromkeys(("001b", "001c"), plain_comment),
-    **dict.fromkeys(("0001", "0013", "0003", "0015"), lambda it: DIRECTIONS.get(direction(it))),
+    **dict.fromkeys(("0001", "0013", "0003", "0015"), lambda it: DIRECTIONS.get(numbers.direction(it))),
     **dict.fromkeys(("000c", "0019"), lambda it: UNITS.get(text_of(it) or "")),
     "0000": numbers.dotted,
     "0005": _byte(*ALTITUDES),
@@ -114,7 +113,7 @@ _GPS: dict[str, numbers.Rule] = {
     "001d": numbers.date,
     "001f": numbers.with_unit(" m", 1),
 }
-_IIM: dict[str, numbers.Rule] = {
+_IIM = {
     **dict.fromkeys(DATASET_DATES, numbers.iptc_date),
     **dict.fromkeys(DATASET_TIMES, numbers.iptc_time),
     **dict.fromkeys(DATASET_NUMBERS, numbers.iptc_number),
@@ -144,7 +143,7 @@ def plain_and_exact(field: Field) -> tuple[str, str]:
     if rules is not None and field.tag not in rules and isinstance(field.content, bytes):
         value = kept_value(field)
         marked = marked_text(field, value) if isinstance(value, bytes) else None
-        if marked is not None:
+        if marked:
             return marked[1].rstrip("\0 ") or EMPTY, marked[0] + quoted(marked[1])
     return plain(field), exact(field)
 
@@ -208,7 +207,7 @@ def position(fields: dict[str, Field]) -> str | None:
     for letter, angle in _HALVES:
         if letter not in fields or angle not in fields:
             return None
-        value, name = numbers.degrees(fields[angle]), direction(fields[letter])
+        value, name = numbers.degrees(fields[angle]), numbers.direction(fields[letter])
         if value is None or not name:
             return None
         words.append(f"{float(value):.6f}° {name}")

@@ -25,7 +25,7 @@ from .choosing import hint, is_known
 from .forms import clock_of, number_of
 from .labels import CODED, DAMAGE, DATED, POSITION, fields_by_label, label_of
 from .places import place_of
-from .tokens import EXACT, Mistake, Reader, Token, tokens_of
+from .tokens import EXACT, Mistake, Reader, Token, Words, WordsOf, tokens_of
 
 # Texts as people compare them: capitals, decomposed letters and spaces don't tell two texts apart.
 
@@ -105,7 +105,7 @@ class Condition:
     label: str
     comparison: str
     value: str
-    others: tuple[str, ...] = ()  # further texts of `is`, of which one is enough
+    others: Words = ()  # further texts of `is`, of which one is enough
 
 
 @dataclass(frozen=True)
@@ -162,7 +162,7 @@ def all_of(questions: Sequence[Question]) -> Question:
     return questions[0] if len(questions) == 1 else All(tuple(questions))
 
 
-def question_of(text: str, words_of: Callable[[str], list[str]] = lambda name: []) -> Question:
+def question_of(text: str, words_of: WordsOf = lambda name: []) -> Question:
     """What a text asks; `words_of` reads a file of words. Raises `WrongQuestion`.
 
     >>> question_of("keywords = clay or without credit")
@@ -280,7 +280,7 @@ class _Reader(Reader):
         self._depth -= 1
         return question
 
-    def _comparison(self) -> tuple[str, ...]:
+    def _comparison(self) -> Words:
         """The words of the comparison that is next; empty if none is."""
         return next((it for it in _BY_WORDS if self._follows(*it)), ())
 

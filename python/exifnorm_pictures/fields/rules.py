@@ -14,13 +14,13 @@ import fnmatch
 import os
 import re
 from dataclasses import dataclass
-from typing import Callable, Iterable, NoReturn, Sequence
+from typing import Iterable, NoReturn, Sequence
 
 from ..model.errors import WrongUse
 from . import dates
 from .labels import DATED, LABELS, POSITION, fields_by_label, label_of
 from .questions import WrongQuestion, checked_value, exact_value, given_label, nearest
-from .tokens import EXACT, MOST_WORDS, Mistake, Reader, Token, tokens_of
+from .tokens import EXACT, MOST_WORDS, Mistake, Reader, Token, Words, WordsOf, tokens_of
 
 EXAMPLES = """every picture needs creator, credit, copyright    # a comment
 copyright is "Riverside Museum"
@@ -81,12 +81,12 @@ class Rule:
     line: int
     text: str  # as it was written
     kind: str
-    labels: tuple[str, ...]
+    labels: Words
     values: tuple[
         str, ...
     ] = ()  # of VALUES all that are allowed; the text of EQUAL, the pattern of LIKE, the number of LENGTH, the date of AFTER and BEFORE
-    inside: tuple[str, ...] = ()
-    outside: tuple[str, ...] = ()
+    inside: Words = ()
+    outside: Words = ()
 
     def is_about(self, path: str) -> bool:
         """Whether it is about a picture with this path below the folder that was indexed.
@@ -107,7 +107,7 @@ def _lies_in(path: str, folders: Iterable[str]) -> bool:
     return False
 
 
-def rules_of(text: str, words_of: Callable[[str], list[str]]) -> list[Rule]:
+def rules_of(text: str, words_of: WordsOf) -> list[Rule]:
     """The rules of a file; `words_of` reads a file of words. Raises `WrongRules`, with a line for each mistake.
 
     >>> [rule.kind for rule in rules_of("every picture needs credit\\ncredit is 'Museum'", lambda name: [])]
@@ -124,7 +124,7 @@ def rules_of(text: str, words_of: Callable[[str], list[str]]) -> list[Rule]:
             if len(mistakes) < 3 * _MOST_MISTAKES:
                 continue
             raise WrongRules(*mistakes, "the lines below were not looked at") from None
-        if rule is not None:
+        if rule:
             rules.append(rule)
             words += len(rule.values)
         if len(rules) > MOST_RULES or words > MOST_WORDS:
@@ -134,7 +134,7 @@ def rules_of(text: str, words_of: Callable[[str], list[str]]) -> list[Rule]:
     return rules
 
 
-def _rule(number: int, line: str, words_of: Callable[[str], list[str]]) -> Rule | None:
+def _rule(number: int, line: str, words_of: WordsOf) -> Rule | None:
     """The rule of a line, if it has one. Raises `Mistake`."""
     if len(line) > LONGEST_LINE:
         raise Mistake(f"a line has at most {LONGEST_LINE:,} characters; a file of words, after from, may have more", 0, 1)
@@ -154,7 +154,7 @@ class _Reader(Reader):
         if self._takes("every", "picture"):
             if not self._takes("needs"):
                 self._fail("expected: needs, as in `every picture needs credit`")
-            kind, labels, values = NEEDS, self._labels(), ()  # type: tuple[str, tuple[str, ...], tuple[str, ...]]
+            kind, labels, values = NEEDS, self._labels(), ()  # type: tuple[str, Words, Words]
         elif self._takes("labels", "agree"):
             left_out = self._left_out()
             kind, labels, values = AGREE, tuple(it for it in COMPARED if it not in left_out), ()
@@ -174,7 +174,7 @@ class _Reader(Reader):
         self._at = at
         return ()
 
-    def _labels(self) -> tuple[str, ...]:
+    def _labels(self) -> Words:
         """Labels up to a predicate, a place or the end."""
         labels = [self._label()]
         while self._takes(","):
@@ -205,11 +205,11 @@ class _Reader(Reader):
                 self._fail(f"{token.text!r} is no word of a rule (perhaps {_MEANT[token.word]} is meant)", token)
         self._fail(f"{name!r} is no label and no field{nearest(name)}", *tokens)
 
-    def _predicate_words(self) -> tuple[str, ...]:
+    def _predicate_words(self) -> Words:
         """The words of the predicate that is next; empty if none is."""
         return next((words for words in _PREDICATES if self._follows(*words)), ())
 
-    def _predicate(self, labels: tuple[str, ...]) -> tuple[str, tuple[str, ...]]:
+    def _predicate(self, labels: Words) -> tuple[str, Words]:
         words = self._predicate_words()
         if not words:
             known = (" ".join(words) for words in _PREDICATES if words != ("needs",))
@@ -220,7 +220,7 @@ class _Reader(Reader):
             self._fail("only `every picture` needs something: every picture needs " + ", ".join(labels), *self._tokens[:1])
         return kind, self._values(words, kind, labels)
 
-    def _values(self, words: tuple[str, ...], kind: str, labels: tuple[str, ...]) -> tuple[str, ...]:
+    def _values(self, words: Words, kind: str, labels: Words) -> Words:
         if kind in (NEVER, AGREE):
             return self._compared(labels)[:0] if kind == AGREE else ()
         if kind == LENGTH:
@@ -237,7 +237,7 @@ class _Reader(Reader):
         except ValueError as error:
             self._fail(str(error), value)
 
-    def _compared(self, labels: tuple[str, ...]) -> tuple[str, ...]:
+    def _compared(self, labels: Words) -> Words:
         """These labels, all of which have to be among those that Exif, IPTC and XMP may have."""
         if others := [label for label in labels if label not in COMPARED]:
             self._fail(f"{others[0]} is none of the labels that are compared: {', '.join(COMPARED)}", *self._tokens[:1])
@@ -263,7 +263,7 @@ class _Reader(Reader):
             self._fail(f"expected: {dates.EXPECTED}", given)
         return day
 
-    def _places(self) -> tuple[tuple[str, ...], tuple[str, ...]]:
+    def _places(self) -> tuple[Words, Words]:
         folders: dict[str, list[str]] = {word: [] for word in _PLACES}
         while not self._is_at_end:
             word = self._next.word
@@ -272,9 +272,10 @@ class _Reader(Reader):
                 several = '. Several texts: one of "a", "b"' * is_further
                 self._fail(f"expected: in or except and a folder, or the end of the line{several}")
             self._at += 1
-            folders[word].append(self._folder())
+            of_word = folders[word]
+            of_word.append(self._folder())
             while self._takes(","):
-                folders[word].append(self._folder())
+                of_word.append(self._folder())
         return tuple(folders["in"]), tuple(folders["except"])
 
     def _folder(self) -> str:

@@ -6,6 +6,8 @@ import re
 from typing import Callable, NamedTuple, NoReturn
 
 # The comparisons with the very texts that are given, which need only be composed alike
+Words = tuple[str, ...]
+WordsOf = Callable[[str], list[str]]  # reads a file of words
 EXACT = (("is",), ("one", "of"), ("from",))
 MOST_WORDS = 1_000_000  # of the texts that all rules, or a question, together allow
 _SHOWN = 100  # characters that are shown before and after the start of a mistake
@@ -60,7 +62,7 @@ def tokens_of(text: str, has_comments: bool = False) -> list[Token]:
     at, end = 0, len(text.rstrip())
     while at < end:
         match = _TOKEN.match(text, at)
-        if match is None:
+        if not match:
             start = end - len(text[at:end].lstrip())
             if text[start] == '"':
                 raise Mistake("the quotes have no end", start, end)
@@ -68,20 +70,20 @@ def tokens_of(text: str, has_comments: bool = False) -> list[Token]:
         word = match[3] or ""
         if has_comments and word.startswith("#"):
             break
-        start = match.end() - len(match[0].lstrip())
+        at = match.end()
+        start = at - len(match[0].lstrip())
         if word.startswith("'"):  # it would be taken for a part of the text
             why = "the quotes have no end; put a text that begins with an apostrophe, or has one,"
-            raise Mistake(f"{why} in double quotes", start, match.end())
+            raise Mistake(f"{why} in double quotes", start, at)
         quoted = match[2] if match[1] is None else match[1].replace('""', '"')
-        tokens.append(Token(word or quoted, start, match.end(), not word))
-        at = match.end()
+        tokens.append(Token(word or quoted, start, at, not word))
     return tokens
 
 
 class Reader:
     """Reads tokens one after the other."""
 
-    def __init__(self, text: str, tokens: list[Token], words_of: Callable[[str], list[str]]) -> None:
+    def __init__(self, text: str, tokens: list[Token], words_of: WordsOf) -> None:
         """`words_of` reads the file of words that follows `from`."""
         end = tokens[-1].end if tokens else 0
         self._text, self._words_of = text, words_of
@@ -121,7 +123,7 @@ class Reader:
         start, end = (tokens[0].start, tokens[-1].end) if tokens else self._next[1:3]
         return Token(self._text[start:end], start, end)
 
-    def _value(self, ends: tuple[str, ...], expected: str) -> Token:
+    def _value(self, ends: Words, expected: str) -> Token:
         """A text in quotes, or all up to a word that ends it."""
         if self._next.is_quoted:
             self._at += 1
@@ -131,7 +133,7 @@ class Reader:
             self._fail(expected)
         return value
 
-    def _texts(self, words: tuple[str, ...], ends: tuple[str, ...], expected: str) -> tuple[str, ...]:
+    def _texts(self, words: Words, ends: Words, expected: str) -> Words:
         """The texts after one of the exact comparisons."""
         ends = (*ends, ",") if words == ("one", "of") else ends
         first = self._value(ends, expected)

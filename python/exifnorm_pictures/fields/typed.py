@@ -92,7 +92,7 @@ def _integer(text: str) -> XmpObject:
 
 def _rational(text: str) -> XmpObject:
     match = _RATIONAL.fullmatch(text)
-    if match is None:
+    if not match:
         return text
     below = int(match[2])
     return Fraction(int(match[1]), below) if below else None
@@ -101,7 +101,7 @@ def _rational(text: str) -> XmpObject:
 def _coordinate(text: str) -> XmpObject:
     """Degrees, those of south and west below zero (part 2, 1.2.7.4, GPSCoordinate: "DDD,MM,SSk" or "DDD,MM.mmk")."""
     match = _COORDINATE.fullmatch(text)
-    if match is None:
+    if not match:
         return text
     degrees = int(match[1]) + Fraction(match[2]) / 60 + Fraction(match[3] or 0) / 3600
     return float(-degrees if match[4] in "SW" else degrees)
@@ -109,7 +109,7 @@ def _coordinate(text: str) -> XmpObject:
 
 def _date(text: str) -> XmpObject:
     match = _DATE.fullmatch(text)
-    if match is None:
+    if not match:
         return text
     *moment, part, _, sign, hours, minutes = match.groups("0")
     try:
@@ -123,7 +123,7 @@ def _date(text: str) -> XmpObject:
         return text
 
 
-_MADE: dict[str, Callable[[str], XmpObject]] = {
+_MADE = {
     "Integer": _integer,
     "Real": lambda text: float(text) if _REAL.fullmatch(text) else text,
     "Rational": _rational,

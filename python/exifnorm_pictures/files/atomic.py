@@ -106,6 +106,7 @@ def make(name: bytes | str, sources: Iterable[bytes | str]) -> None:
             os.close(file)
 
 
+Allowed = Callable[[bytes], bool]  # whether a file that begins so may be replaced
 Write = Callable[[BinaryIO], object]
 _LEFT = re.compile(rb"\.exifnorm-[0-9a-f]{12}-[0-9a-f]{8}\.part")  # as `_free_name` makes it
 _HEAD = 100  # bytes by which the kind of a file is known
@@ -136,7 +137,7 @@ def copy_new(source: bytes, out: bytes, like: bytes, check: Callable[[bytes], No
         _link(file, name, out)
 
 
-def replace(out: bytes, write: Write, allowed: Callable[[bytes], bool], kept: tuple[str, ...] = ()) -> None:
+def replace(out: bytes, write: Write, allowed: Allowed, kept: tuple[str, ...] = ()) -> None:
     """Writes a file that may replace an earlier one: a regular file whose first bytes are `allowed`, or an empty one.
 
     It is made from the files `kept`, which are never replaced, whatever name `out` is. It has the rights of the file that it replaces, or
@@ -151,7 +152,7 @@ def replace(out: bytes, write: Write, allowed: Callable[[bytes], bool], kept: tu
         raise NotReplaced(reason(error)) from None
 
 
-def put(name: str, write: Write, allowed: Callable[[bytes], bool], kept: tuple[str, ...] = ()) -> None:
+def put(name: str, write: Write, allowed: Allowed, kept: tuple[str, ...] = ()) -> None:
     """The same for a name of the command line, which the error names."""
     try:
         replace(os.fsencode(name), write, allowed, kept)
@@ -159,7 +160,7 @@ def put(name: str, write: Write, allowed: Callable[[bytes], bool], kept: tuple[s
         raise NotReplaced(not_written(shown_path(name), error)) from None
 
 
-def put_copy(name: str, source: str, allowed: Callable[[bytes], bool], kept: tuple[str, ...] = (), beside: Sequence[str] = ()) -> None:
+def put_copy(name: str, source: str, allowed: Allowed, kept: tuple[str, ...] = (), beside: Sequence[str] = ()) -> None:
     """The same with what the file `source` has. What is beside the file that is replaced, by the ends of its names, is removed with it."""
 
     def write(file: BinaryIO) -> None:
@@ -199,7 +200,7 @@ def _replace(there: bytes, write: Write, sources: tuple[str, ...]) -> None:
             raise
 
 
-def _check(out: bytes, allowed: Callable[[bytes], bool], kept: tuple[str, ...]) -> None:
+def _check(out: bytes, allowed: Allowed, kept: tuple[str, ...]) -> None:
     try:
         now = os.stat(out)
     except FileNotFoundError:

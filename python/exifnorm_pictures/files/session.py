@@ -90,7 +90,7 @@ class Session:
     def close_tool(self) -> None:
         """Ends ExifTool, if one runs. The next call starts another."""
         tool, self.tool = self.tool, None
-        if tool is not None and self.pid == os.getpid():
+        if tool and self.pid == os.getpid():
             tool.close()
 
     def close(self) -> None:

@@ -112,7 +112,7 @@ def _misplaced(kind: str, block: bytes) -> str:
 
 def _kept(form: bytes, packs: bool, budget: Budget | None) -> tuple[bytes | None, str | None, Fields | None]:
     """The fields of a normal form: packed with a digest of all but the MakerNote, or as they are made when somebody asks for them."""
-    if budget is not None:
+    if budget:
         count(form, budget)
     return (*packed_form(form), None) if packs else (None, None, Fields(partial(fields_of_form, form)))
 
@@ -122,7 +122,7 @@ def _repaired(refused: BlockRecord, block: bytes, packs: bool, budget: Budget | 
     from . import repairs  # which takes long to import, and few blocks are refused
 
     repair = repairs.repaired(block, budget)
-    if repair is None:
+    if not repair:
         return refused
     fields, but_note, fresh = _kept(repair.form, packs, budget)
     digest = hashlib.sha256(repair.form).hexdigest()
@@ -163,7 +163,7 @@ def judge_all(blocks: Blocks, packs: bool = False) -> list[BlockRecord]:
         if at.extends:
             continue
         block = known.get((at.kind, at.data))
-        if block is None:
+        if not block:
             block = _judged(at, blocks, extended, packs)
             if len(blocks.blocks) > FEW:  # pages of a TIFF can share a value
                 blocks.budget.check_time()
@@ -240,7 +240,7 @@ def _judge_xmp(at: FoundBlock, extensions: xmp.Extensions, left: dict[str, bytes
         return record(made[0], None, None, length, hashlib.sha256(at.data).hexdigest(), fields=made[1])
     used: set[str] = set()
     try:
-        statements: xmp.Statements | None = xmp.statements(at.data, extensions, used)
+        statements = xmp.statements(at.data, extensions, used)
         cause = ""
     except xmp.Unreadable as error:
         statements, cause = None, error.cause

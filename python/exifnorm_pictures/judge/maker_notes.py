@@ -14,7 +14,7 @@ from ..extract import exiftool, programs
 from ..files.session import Session
 from ..model.budgets import FIELD_BYTES
 from ..model.records import PictureRecord, Stamp, has, is_marked_as
-from ..model.columns import Damaged
+from ..model.errors import Damaged
 from .sides import Sides
 
 Values = dict[str, str]
@@ -114,7 +114,7 @@ def compared_notes(session: Session, sides: Sides, picture: PictureRecord, other
     known = {}
     for number, side in enumerate((picture, other)):
         kept = sides.maker_notes(number, side, unpacked_reading)
-        if kept is not None:
+        if kept:
             known[number] = kept
         elif not is_as_it_was(side):
             return None

@@ -9,13 +9,13 @@ from __future__ import annotations
 
 import struct
 from collections import Counter
-from typing import Callable, Iterator, NamedTuple, Sequence, Union
+from typing import Iterator, NamedTuple, Sequence, Union
 
 import exifnorm
 
 from ..extract.structure import HEADER, LINKS, MAKER_NOTE, Directory, Entry, Walk
 from ..model.budgets import Budget
-from ..model.steps import Step
+from ..model.steps import Step, Steps
 from ..model.texts import grouped
 from ..model.tiff_types import EXIF, IFD, LONG
 
@@ -38,7 +38,7 @@ class Repaired(NamedTuple):
 
     block: bytes
     form: bytes
-    steps: tuple[Step, ...]
+    steps: Steps
 
 
 class _Walk(Walk):
@@ -89,7 +89,7 @@ def repaired(block: bytes, budget: Budget | None = None) -> Repaired | None:
             done = _next(cause, original, now, budget) if cause or steps else None
         except (struct.error, IndexError):
             return None
-        if done is None:
+        if not done:
             return None if cause else Repaired(now, form, tuple(steps))
         if bytes(done[0]) == now:
             return None
@@ -337,11 +337,12 @@ def _value_outside(walk: _Walk) -> _Done:
 
 
 def _thumbnail_outside(walk: _Walk) -> _Done:
+    size = len(walk.block)
     for directory, start, length in walk.thumbnails():
-        if start.last < len(walk.block) < start.last + length.last:
-            out = walk.put(length.place + 8, len(walk.block) - start.last)
+        if start.last < size < start.last + length.last:
+            out = walk.put(length.place + 8, size - start.last)
             return out, "the thumbnail cut to what is there", "the end of the thumbnail", "thumb"
-        if start.last >= len(walk.block):
+        if start.last >= size:
             inner = _Walk(walk.without(directory, start))
             for other, entry in inner.entries():
                 if other.name == "thumb" and entry.tag == length.tag:
@@ -375,7 +376,7 @@ def _loop(walk: _Walk) -> _Done:
     return None
 
 
-_STEPS: dict[str, Callable[[_Walk], _Done]] = {
+_STEPS = {
     "Unsorted": _unsorted,
     "Overlap": _overlap,
     "DirectoryOutside": _directory_outside,

@@ -29,7 +29,7 @@ DIRECTORIES, ENTRIES, VALUE_BYTES = "directories", "entries of directories", "by
 ALL_FIELDS = "fields of Exif and IPTC"
 XMP_BYTES, XMP_TAGS, XMP_ATTRIBUTES = "bytes of XMP", "tags of XMP", "attributes of XMP"
 
-LIMITS: dict[str, int] = {
+LIMITS = {
     BYTES_READ: 1 << 30,  # bytes that are read twice count twice. About 3 seconds of SHA-256; need 6.8 MB
     COPIED_BYTES: 1 << 30,  # of a file object that can't seek, or that another program reads
     BLOCKS: 20_000,  # two for each page of a TIFF; need 15

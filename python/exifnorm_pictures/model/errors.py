@@ -23,3 +23,7 @@ class Failure(Exception):
 
 class WrongUse(Failure):
     """The arguments of a command, or a file that they name, are refused."""
+
+
+class Damaged(Exception):
+    """A catalogue has a value that nothing here writes: it is damaged. Only what reads the values of a catalogue raises this."""

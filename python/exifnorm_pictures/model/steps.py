@@ -8,7 +8,7 @@ from typing import Sequence
 
 from exifnorm._named import NamedTuple
 
-from .columns import Damaged
+from .errors import Damaged
 
 
 class Step(NamedTuple):
@@ -18,6 +18,9 @@ class Step(NamedTuple):
     what: str
     loses: str = ""
     where: str = ""  # the directory of which fields are lost, such as `gps`, or the lost field, such as `main 010f`
+
+
+Steps = tuple[Step, ...]
 
 
 def loses(steps: Sequence[Step]) -> list[str]:
@@ -50,7 +53,7 @@ def packed(steps: Sequence[Step]) -> str:
     return json.dumps([list(it) for it in steps])
 
 
-def unpacked(text: str | None) -> tuple[Step, ...]:
+def unpacked(text: str | None) -> Steps:
     """The steps from the result of `packed`. Raises `Damaged`, since a catalogue may be damaged or a stranger's.
 
     >>> unpacked(packed([Step("Doubled", "left out")]))

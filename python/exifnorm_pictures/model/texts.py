@@ -10,7 +10,6 @@ import re
 from contextlib import suppress
 from enum import Enum
 from functools import lru_cache
-from types import TracebackType
 from typing import Any, Iterable, TypeVar
 
 
@@ -250,7 +249,7 @@ _PACKAGES = ("exifnorm_pictures", "exifnorm")
 def described(error: BaseException) -> str:
     """An error of our own code: its kind, its text, and the innermost of our lines that it came through."""
     line = ""
-    step: TracebackType | None = error.__traceback__
+    step = error.__traceback__
     while step is not None:
         file = step.tb_frame.f_code.co_filename
         package = str(step.tb_frame.f_globals.get("__name__")).partition(".")[0]

@@ -6,7 +6,7 @@ import functools
 
 from .budgets import CACHED
 
-_SPACES: dict[str, str] = dict(
+_SPACES = dict(
     line.split()
     for line in """
 http://purl.org/dc/elements/1.1/ dc

@@ -197,13 +197,13 @@ _CAUSES = (
     ),
 )
 
-CAUSES: dict[str, Cause] = {it.name: it for it in _CAUSES}
+CAUSES = {it.name: it for it in _CAUSES}
 
 _WRITE_AGAIN = "`exifnorm-pictures mend`, whose last step lets ExifTool write all tags that it reads into new blocks. It helps where ExifTool reads the packet."
 _WHOLE_COPY = "Take the file from its source again: a program has copied its XMP only in part."
 
 # The remedies of XMP packets that can't be read, by the causes of `exifnorm_pictures.xmp`, which has their meanings.
-XMP_REMEDIES: dict[str, str] = {
+XMP_REMEDIES = {
     "TooLong": "No packet of a real picture is so long. Keep what is long, such as masks of an editor, outside of the picture.",
     "LongNamespace": "No real namespace is so long. `exifnorm-pictures mend` makes a copy without its properties, where ExifTool reads the packet.",
     "LongLanguage": "No real language is so long. Put another one in its place.",
@@ -223,7 +223,7 @@ XMP_REMEDIES: dict[str, str] = {
 # another, 68 kB, ExifTool 12.57 takes 16 seconds of a processor.
 OVER_LIMITS = ("TooLong", "LongNamespace", "LongLanguage", "TooDeep")
 # Of blocks whose form is too long, that are compressed, or for which the memory didn't suffice: these have no cause of the grammar.
-OTHER_REMEDIES: dict[str, tuple[str, str]] = {
+OTHER_REMEDIES = {
     "NormalTooLong": (
         "The block is accepted, but its normal form would be longer than any block may be.",
         "Nothing in it is wrong. Pictures with it are only the same byte for byte.",

@@ -3,7 +3,7 @@
 from __future__ import annotations
 
 from dataclasses import dataclass, field
-from typing import Callable, NamedTuple
+from typing import NamedTuple
 
 from exifnorm import XmpRefused, xmp_normal
 from exifnorm._causes import OF_PACKETS
@@ -67,7 +67,7 @@ class Layout:
     def __init__(self, block: bytes) -> None:
         self.block = block.removeprefix(SIX)
         self.order = order_of(self.block)
-        self.parts: list[Part] = [Part(0, HEADER, "the header", 0)]
+        self.parts = [Part(0, HEADER, "the header", 0)]
         self.entries: dict[int, EntryAt] = {}
         for directory in directories(self.block):
             self._add(directory)
@@ -154,7 +154,7 @@ class Explanation:
     def lines(self) -> list[str]:
         """The explanation as text."""
         lines = [f"{self.kind}: {self.judgement.line}"]
-        if self.words is None:
+        if not self.words:
             return lines
         lines.append(f"  {self.words[0]} {self.cause.meaning if self.cause else ''}".rstrip())
         lines += [*(f"  {it}" for it in self.here), *(f"    {it}" for it in self.octets)]
@@ -177,7 +177,7 @@ class Explanation:
             "bytes": self.octets,
             "writers": cause.writers if cause else [],
             "remedy": self._remedy or None,
-            "cost": None if cause is None else "" if self.is_without_remedy else cause.cost,
+            "cost": None if not cause else "" if self.is_without_remedy else cause.cost,
         }
 
 
@@ -188,7 +188,7 @@ def explain(kind: str, block: bytes) -> Explanation:
     judgement = judge(kind, block)
     words = words_of(judgement.cause or "")
     cause = CAUSES.get(judgement.cause or "") if judgement.status == Status.REFUSED else None
-    if cause is None or judgement.place is None:
+    if not cause or judgement.place is None:
         return Explanation(kind, judgement, words, cause)
     layout = Layout(block)
     here = _FACTS.get(cause.name, _entry)(layout, cause.name, judgement.place)
@@ -199,7 +199,7 @@ def explain_packet(judgement: BlockRecord, packet: bytes) -> Explanation:
     """Explains an XMP packet that was judged; one that was read needs no explanation."""
     words = words_of(judgement.cause, XMP) if judgement.cause else None
     fault = _fault_of(packet) if judgement.cause in _AT_A_PLACE else None
-    if fault is None:
+    if not fault:
         return Explanation(XMP, judgement, words)
     what = OF_PACKETS[fault.cause][0].rpartition("not well-formed: ")[2]
     line = packet.count(b"\n", 0, fault.offset) + 1
@@ -262,13 +262,13 @@ def _directory(layout: Layout, cause: str, place: int) -> list[str]:
     at = place if cause == "EmptyDirectory" else named
     if at is None:
         return lines
-    count = layout.number(at, 2)
+    count, size = layout.number(at, 2), len(layout.block)
     if count is None:
-        return lines + [f"The directory would begin at {at}; the block has {len(layout.block)} bytes."]
+        return lines + [f"The directory would begin at {at}; the block has {size} bytes."]
     end = at + 2 + 12 * count + 4
-    words = f"The directory at {at} has {count} entr{'y' if count == 1 else 'ies'} and would end at {end}; the block has {len(layout.block)} bytes."
-    if cause == "DirectoryOutside" and 0 < end - len(layout.block) <= 4:
-        words += f" Only the offset after the last entry is missing ({end - len(layout.block)} bytes of 4)."
+    words = f"The directory at {at} has {count} entr{'y' if count == 1 else 'ies'} and would end at {end}; the block has {size} bytes."
+    if cause == "DirectoryOutside" and 0 < end - size <= 4:
+        words += f" Only the offset after the last entry is missing ({end - size} bytes of 4)."
     return lines + [words]
 
 
@@ -278,7 +278,7 @@ def _next(layout: Layout, cause: str, place: int) -> list[str]:
 
 def _entry_line(layout: Layout, place: int) -> list[str]:
     entry = layout.entries.get(place)
-    if entry is None:
+    if not entry:
         words = {4: "the header's offset of the main directory"}.get(place, "the offset of the next directory")
         return [f"At {place} is {words}."]
     return [f"At {place} is entry {entry.number}: {entry.label}, {entry.form}, last field {entry.last}."]
@@ -287,10 +287,10 @@ def _entry_line(layout: Layout, place: int) -> list[str]:
 def _entry(layout: Layout, cause: str, place: int) -> list[str]:
     lines = _entry_line(layout, place)
     entry = layout.entries.get(place)
-    if entry is None:
+    if not entry:
         return lines
     before = layout.entries.get(place - 12)
-    if cause in ("Unsorted", "Doubled") and before is not None:
+    if cause in ("Unsorted", "Doubled") and before:
         lines.append(f"Before it is {before.label}, {before.form}, last field {before.last}.")
     if cause == "ValueOutside":
         lines.append(f"Its value would end at {entry.last + entry.size}; the block has {len(layout.block)} bytes.")
@@ -301,7 +301,7 @@ def _entry(layout: Layout, cause: str, place: int) -> list[str]:
 
 
 # What is shown of a refused block beside the bytes at the offset, by the cause; of all other causes the entry there
-_FACTS: dict[str, Callable[[Layout, str, int], list[str]]] = {
+_FACTS = {
     "TooLong": _length,
     "UnknownKind": _beginning,
     "HeaderCut": _length,

@@ -23,7 +23,7 @@ from ..judge import repairs
 from ..judge.judge import judge_all
 from ..model.budgets import MENDED_BYTES, Budget, TooMuch
 from ..model.found import EXIF, REST, SIX, Blocks, Broken, FoundBlock, cut, damage
-from ..model.steps import Step, loses
+from ..model.steps import Steps, loses
 from ..model.texts import Word, ending_of, reason, shown_path
 
 # A picture in which repaired Exif blocks replace the refused ones. All other bytes of the file stay as they are.
@@ -39,7 +39,7 @@ class Change(NamedTuple):
     new: bytes
 
 
-def changes(picture: BinaryIO, kind: str, blocks: Sequence[FoundBlock]) -> tuple[list[Change], tuple[Step, ...]] | None:
+def changes(picture: BinaryIO, kind: str, blocks: Sequence[FoundBlock]) -> tuple[list[Change], Steps] | None:
     """What replaces the refused Exif blocks of a file, in the order of the file, and the steps of the repairs. None if a block can't be
     repaired or isn't found in the file. Raises `TooLong`.
 
@@ -48,14 +48,14 @@ def changes(picture: BinaryIO, kind: str, blocks: Sequence[FoundBlock]) -> tuple
     wrap = _WRAPPERS.get(kind)
     if wrap is None:
         return None
-    replaced, steps = [], ()  # type: list[Change], tuple[Step, ...]
+    replaced, steps = [], ()  # type: list[Change], Steps
     for block in dict.fromkeys(it.data for it in blocks if it.kind == EXIF):
         repair = repairs.repaired(block)
-        if repair is None:
+        if not repair:
             return None
         if repair.steps:
             change = _change(picture, wrap, block, repair.block)
-            if change is None:
+            if not change:
                 return None
             replaced.append(change)
             steps += repair.steps
@@ -119,7 +119,7 @@ def _length(picture: BinaryIO, replaced: Sequence[Change]) -> Change:
 
 
 # How a block is in a file: in a segment or a chunk of its own
-_WRAPPERS: dict[str, Callable[[bytes], bytes]] = {
+_WRAPPERS = {
     "JPEG": lambda data: b"\xff\xe1" + struct.pack(">H", len(data) + 2) + data,
     "PNG": lambda data: struct.pack(">I4s", len(data), b"eXIf") + data + struct.pack(">I", zlib.crc32(b"eXIf" + data)),
     "WEBP": lambda data: struct.pack("<4sI", b"EXIF", len(data)) + data + bytes(len(data) % 2),
@@ -148,7 +148,7 @@ class NeedsExifTool(programs.Failed):
     """Only ExifTool can mend a picture, and isn't installed or may not be started. The text says why a repair isn't enough, and which package has it."""
 
     def __init__(self, kind: str, repair: "_Repair | None", may_start: bool = True) -> None:
-        if repair is not None:
+        if repair:
             why = f"the repair of its block loses {' and '.join(loses(repair.steps))}, and ExifTool, which shows what that is,"
         else:
             known = "no repair of its block is known" if kind in REPAIRED_TYPES else f"in a {kind} file no block is repaired"
@@ -166,7 +166,7 @@ class Mended:
     lost: list[str] = field(default_factory=list)
     gained: list[str] = field(default_factory=list)
     problem: str = ""
-    repairs: tuple[Step, ...] = ()  # what was repaired
+    repairs: Steps = ()  # what was repaired
     damage: list[str] = field(default_factory=list)  # what is left of a damaged file, and was not read
     cut_off: str = ""  # where the file is cut off, in its metadata or behind them
     is_written: bool = False  # whether there is a copy
@@ -222,11 +222,11 @@ def attempt(session: Session, picture: bytes, room: str) -> tuple[Mended, bytes 
     repair = _repaired(session, picture, taken, room)
     if session.programs and programs.is_there("exiftool"):
         best = _best(session, picture, taken, repair, room)
-    elif repair is not None and not loses(repair.steps):
+    elif repair and not loses(repair.steps):
         best = (Remedy.REPAIR, repair.file, [], [])
     else:
         raise NeedsExifTool(taken.type, repair, session.programs)
-    if best is None:
+    if not best:
         return Mended(Remedy.NONE, before, damage=left, cut_off=end), None
     remedy, file, lost, gained = best
     repairs = repair.steps if remedy == Remedy.REPAIR and repair else ()
@@ -248,7 +248,7 @@ class _Repair(NamedTuple):
     """A copy with repaired blocks, and what was repaired."""
 
     file: str
-    steps: tuple[Step, ...]
+    steps: Steps
 
 
 def _repaired(session: Session, picture: bytes, taken: Blocks, room: str) -> _Repair | None:
@@ -256,7 +256,7 @@ def _repaired(session: Session, picture: bytes, taken: Blocks, room: str) -> _Re
     name = os.path.join(room, "repair" + ending_of(picture))
     with opening.reading(picture) as given:
         repair = changes(given, taken.type, taken.blocks)
-        if repair is None:
+        if not repair:
             return None
         with open(name, "xb") as copy:
             write(given, repair[0], copy)
@@ -325,7 +325,7 @@ def _best(session: Session, picture: bytes, taken: Blocks, repair: _Repair | Non
             _copy(first, file)
             if not _REMEDIES[remedy](session, file):
                 continue
-        elif repair is None:
+        elif not repair:
             continue
         written = blocks_of_file(os.fsencode(file), session=session)
         if written.problem or _refusals(written):
@@ -384,7 +384,7 @@ def _rebuild(session: Session, name: str) -> bool:
     return _exiftool(session, *words).returncode == 0
 
 
-_REMEDIES: dict[Remedy, Callable[[Session, str], bool]] = {Remedy.TOUCH: _touch, Remedy.EXIV2: _by_exiv2, Remedy.REBUILD: _rebuild}
+_REMEDIES = {Remedy.TOUCH: _touch, Remedy.EXIV2: _by_exiv2, Remedy.REBUILD: _rebuild}
 _OFFSETS = re.compile(rb"Offset|Start |Padding|IPTCDigest|XMPToolkit")  # and who wrote a packet
 
 

@@ -94,7 +94,7 @@ class Changes:
     """All that changed between the two catalogues of a report. Close it."""
 
     def __init__(self, about: About) -> None:
-        assert about.old is not None
+        assert about.old
         self.results: "Counter[Result]" = Counter()
         self.coded: "Counter[Coded]" = Counter()  # what is known of the coded pictures of both catalogues
         self.summary = Summary(about.choice, SHEET)
@@ -118,7 +118,7 @@ class Changes:
         self.number_odd = sum(it.is_odd for it in self._groups)  # pictures that changed like no other
         self.number_alike = len(self._groups) - self.number_odd  # groups of several pictures
         self.edited = sum(it.pictures for it in self._groups)
-        self._group_of: dict[int, int] = {kind: group.number for group in self._groups for kind in group.kinds}
+        self._group_of = {kind: group.number for group in self._groups for kind in group.kinds}
 
     def close(self) -> None:
         """Removes the temporary database."""

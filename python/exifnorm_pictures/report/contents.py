@@ -45,7 +45,7 @@ class About:
 
     def checked(self) -> Checked | None:
         """What breaks the rules, if there are any. The page and the objects need it."""
-        if self.rules and self._checked is None:
+        if self.rules and not self._checked:
             self._checked = Checked(self.catalogue, self.rules, only=self.table())
         return self._checked
 

@@ -97,23 +97,25 @@ class Counts:
 
 def counts_of(about: About) -> Counts:
     """What SQLite counts."""
-    counts = Counts()
-    where = f"WHERE path IN {about.table()}" if about.table() else ""
-    counts.states.update(dict(about.catalogue.rows(f"SELECT {_STATE}, count(*) FROM pictures {where} GROUP BY 1", (), _counted_word)))
+    counts, catalogue, table = Counts(), about.catalogue, about.table()
+
+    def rows(query: str) -> Iterator[tuple[str, int]]:
+        return catalogue.rows(query, (), _counted_word)
+
+    where = f"WHERE path IN {table}" if table else ""
+    counts.states.update(dict(rows(f"SELECT {_STATE}, count(*) FROM pictures {where} GROUP BY 1")))
     counts.total = sum(counts.states.values())
     source = f"FROM blocks JOIN pictures ON pictures.id = picture WHERE status != 'accepted' AND {chosen(about)}"
-    query = f"SELECT ifnull(cause, status), count(*) {source} GROUP BY 1"
-    counts.causes.update(dict(about.catalogue.rows(query, (), _counted_word)))
-    counts.groups = groups.totals(about.catalogue, only=about.table(), choice=about.choice)
+    counts.causes.update(dict(rows(f"SELECT ifnull(cause, status), count(*) {source} GROUP BY 1")))
+    counts.groups = groups.totals(catalogue, only=table, choice=about.choice)
     source = f"FROM not_read JOIN pictures ON pictures.id = picture WHERE {chosen(about)}"
-    about.catalogue.base.create_function("kind_of", 1, kind_of_part, deterministic=True)
+    catalogue.base.create_function("kind_of", 1, kind_of_part, deterministic=True)
     kinds = f"SELECT kind_of(what) AS kind, count(DISTINCT picture) {source} GROUP BY kind"
-    query = f"{kinds} ORDER BY 2 DESC, kind LIMIT {MOST_PARTS}"
-    counts.parts = list(about.catalogue.rows(query, (), _counted_word))
-    counts.unread = about.catalogue.number_of(f"SELECT count(*) FROM pictures WHERE not_read IS NOT '' AND {chosen(about)}")
-    counts.damaged = about.catalogue.number_of(f"SELECT count(*) FROM pictures WHERE damage != ''{_and_chosen(about)}")
+    counts.parts = list(rows(f"{kinds} ORDER BY 2 DESC, kind LIMIT {MOST_PARTS}"))
+    counts.unread = catalogue.number_of(f"SELECT count(*) FROM pictures WHERE not_read IS NOT '' AND {chosen(about)}")
+    counts.damaged = catalogue.number_of(f"SELECT count(*) FROM pictures WHERE damage != ''{_and_chosen(about)}")
     noted = f"FROM blocks JOIN pictures ON pictures.id = picture WHERE note IS NOT NULL AND {chosen(about)}"
-    counts.maker_notes = about.catalogue.number_of(f"SELECT count(DISTINCT picture) {noted}")
+    counts.maker_notes = catalogue.number_of(f"SELECT count(DISTINCT picture) {noted}")
     return counts
 
 

@@ -3,7 +3,6 @@
 from __future__ import annotations
 
 import base64
-import functools
 import hashlib
 import json
 import os
@@ -52,10 +51,10 @@ class SearchIndex:
 
     def add(self, key: str, place: str, entry: Entry) -> None:
         """Adds an entry of a list."""
-        name_ = functools.partial(_name, roots=self._roots)
-        names = [_changed(one, name_) for one in entry.data.pictures] if isinstance(entry.data, Difference) else map(name_, entry.pictures)
-        kind = f"{key}/{entry.data.result}" if isinstance(entry.data, Difference) else key
-        line = json.dumps([place, kind, " ".join(safe(it) for it in entry.words if it), list(names)])
+        kind, names = key, [self._name(it) for it in entry.pictures]
+        if isinstance(entry.data, Difference):
+            kind, names = f"{key}/{entry.data.result}", [self._changed(it) for it in entry.data.pictures]
+        line = json.dumps([place, kind, " ".join(safe(it) for it in entry.words if it), names])
         self._lines.append(line)
         self._length += len(line)
         if self._length > _LENGTH:
@@ -68,15 +67,14 @@ class SearchIndex:
             self._put(name_of(self.files), "exifnormIndex([\n" + ",\n".join(self._lines) + "\n]);\n")
             self._lines, self._length = [], 0
 
+    def _name(self, path: bytes) -> str:
+        return whole_path(below(path, self._roots))
 
-def _name(path: bytes, roots: Sequence[bytes]) -> str:
-    return whole_path(below(path, roots))
-
-
-def _changed(picture: ChangedPicture, name: Callable[[bytes], str]) -> str:
-    """The name of a picture, and its new one if it has moved."""
-    names = [whole_path(picture.name), *([name(picture.after)] if picture.after else [])]
-    return " \N{RIGHTWARDS ARROW} ".join(dict.fromkeys(names))
+    def _changed(self, picture: ChangedPicture) -> str:
+        """The name of a picture, and its new one if it has moved."""
+        name = whole_path(picture.name)
+        after = self._name(picture.after) if picture.after else name
+        return name if name == after else f"{name} \N{RIGHTWARDS ARROW} {after}"
 
 
 def kinds_of(lists: Sequence[tuple[str, str]], results: Iterable[str]) -> list[tuple[str, str]]:
@@ -103,11 +101,17 @@ STATE_WORDS = {
     "damaged": "cut off, and without a block in what is left",
 }
 _TONES = {"accepted": "good", "refused": "bad", "no block": "plain", "damaged": "bad", "NoPicture": "plain"}
-_RESULT_TONES: dict[str, str] = {
+_RESULT_TONES = {
     Result.SAME: "good",
-    **dict.fromkeys((Result.ONLY_MAKER_NOTE, Result.SAME_FILE, Result.REFUSED_SAME), "plain"),
-    **dict.fromkeys((Result.DAMAGED, Result.DAMAGED_BEFORE, Result.DAMAGED_DIFFERENT), "bad"),
-    **dict.fromkeys((Result.REFUSED, Result.NOT_READ, Result.NOT_KNOWN), "bad"),
+    Result.ONLY_MAKER_NOTE: "plain",
+    Result.SAME_FILE: "plain",
+    Result.REFUSED_SAME: "plain",
+    Result.DAMAGED: "bad",
+    Result.DAMAGED_BEFORE: "bad",
+    Result.DAMAGED_DIFFERENT: "bad",
+    Result.REFUSED: "bad",
+    Result.NOT_READ: "bad",
+    Result.NOT_KNOWN: "bad",
 }
 
 
@@ -144,7 +148,7 @@ def environment(filters: dict[str, Callable[..., Any]]) -> "jinja2.Environment":
     return templates
 
 
-_FILTERS: dict[str, Callable[..., Any]] = {
+_FILTERS = {
     "number": "{:,}".format,
     "counted": in_words,
     "path": whole_path,
@@ -259,16 +263,17 @@ class Renderer:
         # pictures that are other ones or damaged
         others = [one for entry in entries if key == "changed" and entry.data.is_other for one in entry.data.pictures]
         compared = [path for one in others for path in (one.after, one.earlier) if path]
-        pictures: dict[Any, str] = {**self.small_pictures.of(paths, compared)}
-        for digest_ in {one.digest for one in others if one.digest}:
-            address = self.small_pictures.of_digest(digest_)
-            pictures.update({digest_: address} if address else {})
+        pictures: dict[Any, str] = self.small_pictures.of(paths, compared)
+        for one in others:
+            address = one.digest and self.small_pictures.of_digest(one.digest)
+            if address:
+                pictures[one.digest] = address
         return pictures
 
     def page(self, section: "Section", number: int, has_next: bool, body: Any) -> str:
         """A further page: a part of a list."""
-        values = {**self._shared, "section": section, "number": number, "has_next": has_next, "body": body}
-        return str(self._templates.get_template("list.html").render(values))
+        template = self._templates.get_template("list.html")
+        return str(template.render(self._shared, section=section, number=number, has_next=has_next, body=body))
 
     def index(self, counts: Counts, lists: list["Written"], changes: Changes | None, rules: Checked | None, files: int) -> str:
         """The first page, or the only one, whose search box looks into the index if that has files."""
@@ -277,7 +282,6 @@ class Renderer:
         groups = changes.groups() if changes else []
         paths = [one.after for group in groups for one, _ in group.pictures if one.after]
         values = {
-            **self._shared,
             "counts": counts,
             "lists": lists,
             "changes": changes,
@@ -288,7 +292,7 @@ class Renderer:
             "pictures": self.small_pictures.of(paths) if self._look else {},
             "symbols": self._kept.symbols,
         }
-        return str(self._templates.get_template("index.html").render(values))
+        return str(self._templates.get_template("index.html").render(self._shared, **values))
 
     def joined(self, parts: Sequence[Any]) -> Any:
         """Several parts as one."""

@@ -262,7 +262,7 @@ class Shrinker:
 
     def _answer(self, request: bytes) -> bytes:
         """The answer to a request; empty if there is none."""
-        if self._process is None:
+        if not self._process:
             words = [sys.executable, "-E", shrinking.__file__]
             self._process = subprocess.Popen(words, stdin=subprocess.PIPE, stdout=subprocess.PIPE, stderr=subprocess.DEVNULL)
         try:

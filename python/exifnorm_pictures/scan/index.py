@@ -176,10 +176,10 @@ class _Finding:
     def _to_read(self, file: FoundFile) -> FoundFile | None:
         """A file with what is known of it, if it has to be looked at."""
         work, again = self.work, self.options.again
-        if self.named is not None and not self.named.add(file.path):
+        if self.named and not self.named.add(file.path):
             return None
         known = None if self.first else self.catalogue.known(file.path)
-        if known is None:
+        if not known:
             work.new |= not self.first
             return file
         work.seen.add(known.id)
@@ -295,7 +295,7 @@ class _Looking:
 
         files = finding.each(found_some)
         first = next(files, None)
-        if first is not None:
+        if first:
             self._begin()
             self._look(chain([first], files))
             self.progress.done(self.done)

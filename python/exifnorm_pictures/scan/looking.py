@@ -178,7 +178,7 @@ def _unless_changed(file: FoundFile, began: int) -> Stamp | None:
     git does it: the next run looks again, and a file that moves is still recognised.
     """
     now = Stamp.at(file.path)
-    return None if now is None or file.stamp != now else _marked(now, began)
+    return None if not now or file.stamp != now else _marked(now, began)
 
 
 def _marked(now: Stamp, began: int) -> Stamp:

@@ -109,7 +109,7 @@ class Departed:
     def _likely(self, catalogue: Catalogue, path: bytes, facts: dict[str, object]) -> tuple[int] | None:
         """The number of the only picture with this content, if no other one means the same."""
         row: tuple[int] | None = self._base.execute(_LIKELY, facts).fetchone()
-        if row is None or self._base.execute(_ARE_TWO, (facts["content"],)).fetchone()[0]:
+        if not row or self._base.execute(_ARE_TWO, (facts["content"],)).fetchone()[0]:
             return None
         return None if catalogue.number_of(_MEAN_THE_SAME, (path,)) else row
 
@@ -236,7 +236,7 @@ class Paths:
 
     @property
     def _base(self) -> sqlite3.Connection:
-        if self._opened is None:
+        if not self._opened:
             self._opened = sqlite3.connect("", isolation_level=None)
             self._opened.execute("PRAGMA journal_mode = OFF")
             self._opened.execute("CREATE TABLE paths (path BLOB PRIMARY KEY) WITHOUT ROWID")
@@ -247,6 +247,6 @@ class Paths:
         return self._base.execute("INSERT OR IGNORE INTO paths VALUES (?)", (path,)).rowcount > 0
 
     def __contains__(self, path: bytes) -> bool:
-        if self._opened is None:
+        if not self._opened:
             return False
         return self._base.execute("SELECT 1 FROM paths WHERE path = ?", (path,)).fetchone() is not None

@@ -131,9 +131,9 @@ def _check_tops(where: str, shown: str, tops: Sequence[bytes]) -> None:
 def _parts(top: bytes, excluded: Excluded, known: dict[str, str], roots: set[bytes]) -> Iterator[Part]:
     """The parts of a folder, or it as one, if it is a part of a folder of an earlier run. One that can't be listed has its own files alone, and
     the run says why. Raises `WrongFolder`."""
-    above = os.path.dirname(top)
+    above, is_folder = os.path.dirname(top), os.path.isdir(top)
     if above in roots:
-        yield from [Part(above, top)] * os.path.isdir(top)
+        yield from [Part(above, top)] * is_folder
         return
     for root in roots:
         if root != top and (root.startswith(os.path.join(top, b"")) or top.startswith(os.path.join(root, b""))):
@@ -144,9 +144,9 @@ def _parts(top: bytes, excluded: Excluded, known: dict[str, str], roots: set[byt
     try:
         folders, has_files = parts_of(top, excluded)
     except OSError:
-        folders, has_files = [], os.path.isdir(top)
+        folders, has_files = [], is_folder
     yield from folders
-    if has_files or (os.path.isdir(top) and (not folders or _key(own) in known)):
+    if has_files or (is_folder and (not folders or _key(own) in known)):
         yield own
 
 

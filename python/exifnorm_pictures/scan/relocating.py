@@ -10,7 +10,7 @@ from typing import Iterator
 from ..catalogue.store import Catalogue
 from ..extract.sidecars import marks_elsewhere
 from ..model.problems import GONE
-from ..model.records import RACY, Stamp, has
+from ..model.records import RACY, Row, Stamp, has
 
 AS_BEFORE, CHANGED, ABSENT = "as before", "changed", "absent"
 COARSE = 2_000_000_000  # nanoseconds in which a file may be changed again without other times, on the coarsest file system
@@ -41,7 +41,7 @@ def relocated(catalogue: Catalogue, old: bytes, new: bytes) -> "Counter[str]":
     return counts
 
 
-def _rows(catalogue: Catalogue, old: bytes, new: bytes, began: int, counts: "Counter[str]") -> Iterator[tuple[object, ...]]:
+def _rows(catalogue: Catalogue, old: bytes, new: bytes, began: int, counts: "Counter[str]") -> Iterator[Row]:
     """The values of `_UPDATE` for each picture."""
     for number, path, root, sidecars, problem, *marks in catalogue.rows("SELECT * FROM temp.moving"):
         has(bytes, path, root)
@@ -67,7 +67,7 @@ def _looked_at(place: bytes, marks: list[int], began: int) -> tuple[str, tuple[i
     """Whether a file is as before, and the time of its last change of status, its inode and its device."""
     size, modified, *others = marks
     now = Stamp.at(place)
-    if now is None:
+    if not now:
         return ABSENT, (others[0], others[1], others[2])
     if (now.size, now.modified) != (size, modified):
         return CHANGED, (others[0], others[1], others[2])

@@ -77,7 +77,7 @@ class Parts:
                 for task in self._finished(client, list(self.tasks)):
                     shard = self.tasks.pop(task)
                     outcome = self._outcome(task, shard)
-                    if outcome is None:
+                    if not outcome:
                         self._submit(client, shard, how)
                     else:
                         yield shard, outcome

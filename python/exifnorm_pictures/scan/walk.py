@@ -36,7 +36,7 @@ class Excluded:
     def __init__(self, patterns: Sequence[str] = ()) -> None:
         texts = [it.strip("/") if it.strip("/") else it for it in dict.fromkeys(patterns)]
         # as bytes: a name need not be UTF-8
-        self._patterns: list[tuple[str, "re.Pattern[bytes]"]] = [(it, re.compile(os.fsencode(translate(it)))) for it in texts]
+        self._patterns = [(it, re.compile(os.fsencode(translate(it)))) for it in texts]
         self._used = [False] * len(texts)
         self.count = 0  # of files and folders that were passed over
         self.known = 0  # of excluded pictures that are in the catalogue from an earlier run
@@ -216,7 +216,7 @@ def outermost(names: Iterable[bytes]) -> Iterator[bytes]:
     >>> list(outermost([b"/a/b", b"/ab", b"/a/", b"/a"]))
     [b'/a', b'/ab']
     """
-    outer: bytes | None = None
+    outer = None
     for top in sorted(os.path.abspath(it).rstrip(b"/") + b"/" for it in names):
         if outer is None or not top.startswith(outer):
             outer = top

@@ -75,7 +75,7 @@ def in_several_processes(work: Iterable[FoundFile], how: How) -> Iterator[Result
 def _by_several(work: Iterator[FoundFile], how: How) -> Iterator[Result]:
     chunks = chunks_of(work, how.processes)
     files = (os.path.join(how.room, f"rows-{number}") for number in itertools.count())
-    unfinished: list[Task] = [Task([], "")]
+    unfinished = [Task([], "")]
     while unfinished:
         unfinished = []
         yield from _by_processes(chunks, how, files, unfinished)

@@ -15,8 +15,7 @@ entity is expanded and nothing is fetched.
 `reading` reads packets by the library, and `reader` those that it calls rare.
 """
 
-from .packets import CAUSES, Unreadable
 from .reading import Extensions, statements
-from .tree import Statements, digest_of_statements
+from .tree import CAUSES, Statements, Unreadable, digest_of_statements
 
 __all__ = ["CAUSES", "Extensions", "Statements", "Unreadable", "digest_of_statements", "statements"]

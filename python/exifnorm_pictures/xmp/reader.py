@@ -11,8 +11,7 @@ from xml.etree import ElementTree
 
 from ..model.budgets import CACHED, LANGUAGE, NAMESPACE, NESTED
 from ..model.xmp_encodings import encoding_of
-from .packets import Unreadable, refuse_if
-from .tree import MEMBER, PICTURE, RDF, TYPE, Literal, Node, Statement, Statements, Uri, Value, key_of
+from .tree import MEMBER, PICTURE, RDF, TYPE, Literal, Node, Statement, Statements, Unreadable, Uri, Value, key_of, refuse_if
 
 
 # The element rdf:RDF of a packet, after a check for parts that a packet must not have.
@@ -35,7 +34,7 @@ def rdf_of(packet: bytes) -> ElementTree.Element:
 
     >>> rdf_of(b"<x:xmpmeta xmlns:x='adobe:ns:meta/'/>")
     Traceback (most recent call last):
-    exifnorm_pictures.xmp.packets.Unreadable: NoRDF: The packet is not x:xmpmeta around one rdf:RDF, nor rdf:RDF by itself.
+    exifnorm_pictures.xmp.tree.Unreadable: NoRDF: The packet is not x:xmpmeta around one rdf:RDF, nor rdf:RDF by itself.
     """
     text = _text(packet)
     refuse_if("<!DOCTYPE" in text, "DocumentType")

@@ -11,8 +11,7 @@ from exifnorm._properties import Makers, made_of_form
 from exifnorm._xmp import form_of
 
 from ..model.budgets import Budget
-from .packets import refuse_if, spend
-from .tree import CONTAINERS, RDF, TYPE, Literal, Node, Statement, Statements, Uri
+from .tree import CONTAINERS, RDF, TYPE, Literal, Node, Statement, Statements, Uri, refuse_if, spend
 
 NOTE = "http://ns.adobe.com/xmp/note/HasExtendedXMP"
 
@@ -32,11 +31,12 @@ class Extensions:
     def statements(self, name: str) -> Statements:
         """The statements of one. Raises `Unreadable`."""
         refuse_if(name not in self.data, "ExtensionMissing")
-        spend(self.data[name], self.budget)
+        data = self.data[name]
+        spend(data, self.budget)
         if name not in self._parsed:
-            digest = hashlib.md5(self.data[name], usedforsecurity=False).hexdigest()
+            digest = hashlib.md5(data, usedforsecurity=False).hexdigest()
             refuse_if(digest.upper() != name, "ExtensionDamaged")
-            self._parsed[name] = _parsed(self.data[name])
+            self._parsed[name] = _parsed(data)
         return self._parsed[name]
 
 

@@ -94,16 +94,17 @@ def _print_lines(checked: Checked, by_picture: bool) -> None:
 def _print_end(output: Output, checked: Checked) -> None:
     """How many rules are broken, and by how many pictures; which rules are about no picture, and how many pictures may break more."""
     nowhere = checked.notes()
-    numbers: dict[str, object] = {
-        "rules": len(checked.rules),
-        "broken_rules": checked.rules_broken(),
-        "pictures": checked.pictures(),
-        "broken_pictures": checked.pictures_broken(),
-        "not_known": checked.not_known(),
-    }
     if output.json:
-        may = list(map(path_members, checked.paths_not_known()))
-        print_object("check", "summary", {**numbers, "may_break": may, "notes": nowhere})
+        about = {
+            "rules": len(checked.rules),
+            "broken_rules": checked.rules_broken(),
+            "pictures": checked.pictures(),
+            "broken_pictures": checked.pictures_broken(),
+            "not_known": checked.not_known(),
+            "may_break": list(map(path_members, checked.paths_not_known())),
+            "notes": nowhere,
+        }
+        print_object("check", "summary", about)
         return
     may_break = in_lines("may break more rules:", checked.paths_not_known(), checked.not_known())
     notes = [*nowhere, *may_break, *filter(None, [checked.unknown()])]

@@ -70,11 +70,12 @@ def _sees_all(choice: Choice, blocks: Sequence[BlockRecord]) -> bool:
     names: dict[int, list[Field]] = {}
     left = COMPARED_FIELDS
     for block in blocks:
-        if id(block.fresh) in names and not any(set("(*?") & set(word) for word in choice.unseen_words()):
+        key = id(block.fresh)
+        if key in names and not any(set("(*?") & set(word) for word in choice.unseen_words()):
             continue
-        if id(block.fresh) not in names:
-            names[id(block.fresh)] = list({(it.directory, it.tag): it for it in fields_of(block)}.values())
-        fields = names[id(block.fresh)]
+        if key not in names:
+            names[key] = list({(it.directory, it.tag): it for it in fields_of(block)}.values())
+        fields = names[key]
         left -= len(fields)
         if left < 0:
             return False
@@ -199,13 +200,13 @@ def _members(comparison: ComparedPair, rows: Sequence[FieldRow], names: Sequence
     for name, picture in zip(names, comparison.records):
         about = {"type": picture.type or None, **unread_members(picture)}
         pictures.append({**picture_object(name, picture.problem, picture.detail), **about})
-    whole: Members = {"pictures": pictures, "result": comparison.result, "identical_files": comparison.is_identical}
-    whole["coded_picture"] = Coded.SAME if comparison.is_identical else comparison.compared.picture
-    kinds = {it.kind: it.result for it in comparison.compared.verdicts}
     return {
-        **whole,
+        "pictures": pictures,
+        "result": comparison.result,
+        "identical_files": comparison.is_identical,
+        "coded_picture": Coded.SAME if comparison.is_identical else comparison.compared.picture,
         "note": comparison.compared.note or None,
-        "kinds": kinds,
+        "kinds": {it.kind: it.result for it in comparison.compared.verdicts},
         "proved": comparison.proved.blocks,
         "proved_with_xmp": comparison.proved.all,
         "fields": [_row_members(it) for it in rows],

@@ -28,7 +28,7 @@ Try = Callable[[bytes], Union[mend.Mended, str]]  # what `mend` does with a pict
 def run(arguments: argparse.Namespace) -> int:
     """Explains refusals, and tries whether `mend` helps."""
     files, run, output = groups_of(arguments)
-    tried: Try = functools.lru_cache(maxsize=1)(functools.partial(_tried, run.session))
+    tried = functools.lru_cache(maxsize=1)(functools.partial(_tried, run.session))
     if output.json:
         return _print_objects(files, run, tried)
 
@@ -114,6 +114,11 @@ def _block_members(block: Block, mended: mend.Mended | str) -> Members:
 
 
 def _picture_members(picture: Picture) -> Members:
-    about = {**picture_object(picture.path, picture._problem, picture._detail), "type": picture.type or None}
-    rest = {"not_read": picture.not_read, **damage_members(picture), "remedy": damage_remedy(picture)}
-    return {**about, "blocks": len(picture.blocks), **rest}
+    return {
+        **picture_object(picture.path, picture._problem, picture._detail),
+        "type": picture.type or None,
+        "blocks": len(picture.blocks),
+        "not_read": picture.not_read,
+        **damage_members(picture),
+        "remedy": damage_remedy(picture),
+    }

@@ -15,7 +15,7 @@ from ...export.rows import VERSION, Export, Tables, head_is_ours, tables
 from ...fields.choosing import of_maker_notes
 from ...files import atomic
 from ...model.errors import WrongUse
-from ...model.texts import Members, in_words, path_members, shown_path
+from ...model.texts import in_words, path_members, shown_path
 from ..looking import files_of, opened
 from ..names import chosen_in, say_unknown
 from ..exit_codes import SUCCESS
@@ -38,8 +38,13 @@ def run(arguments: argparse.Namespace) -> int:
         atomic.put_copy(arguments.file, file, head_is_ours, tuple(files_of(name)), BESIDE)
         say_unknown(catalogue.not_there(only))
     counts = {name: written.counts.get(name, 0) for name in "pictures fields captions conflicts groups".split()}
-    left_out = {"texts_not_kept": work.missing, "absent_groups": work.groups.absent, "maker_notes_not_read": work.maker_notes}
-    about: Members = {**path_members(os.fsencode(arguments.file)), "rows": counts, **left_out}
+    about = {
+        **path_members(os.fsencode(arguments.file)),
+        "rows": counts,
+        "texts_not_kept": work.missing,
+        "absent_groups": work.groups.absent,
+        "maker_notes_not_read": work.maker_notes,
+    }
     answer(output, "export", "summary", about, _lines(arguments.file, counts, work))
     return SUCCESS
 

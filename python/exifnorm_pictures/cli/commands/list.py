@@ -123,7 +123,7 @@ def _print_pictures(form: _Form, answer: Answer, columns: Sequence[str]) -> None
 def _feature(picture: Fitting, columns: Sequence[str], texts: Texts) -> Members:
     """A picture on a map (RFC 7946), whose positions have the longitude first. Its last texts are its positions."""
     place = next(map(place_of, texts[-1] or ()), None)
-    geometry = None if place is None else {"type": "Point", "coordinates": [place.longitude, place.latitude]}
+    geometry = None if not place else {"type": "Point", "coordinates": [place.longitude, place.latitude]}
     properties = {**path_members(picture.path), **{label: None if it is None else "; ".join(it) for label, it in zip(columns, texts)}}
     return {"type": "Feature", "geometry": geometry, "properties": properties}
 
@@ -133,9 +133,15 @@ def _print_end(form: _Form, answer: Answer, columns: Sequence[str]) -> None:
     whether they fit."""
     listed, damaged = answer.fitting(), answer.damaged()
     if form.output.json:
-        numbers: Members = {"pictures": answer.count(), "listed": listed, "not_known": answer.not_known(), "damaged": damaged}
-        numbers["may_fit"] = list(map(path_members, answer.paths_not_known()))
-        print_object("list", "summary", {**numbers, "stands_for": ambiguous_in(answer.places)})
+        about = {
+            "pictures": answer.count(),
+            "listed": listed,
+            "not_known": answer.not_known(),
+            "damaged": damaged,
+            "may_fit": list(map(path_members, answer.paths_not_known())),
+            "stands_for": ambiguous_in(answer.places),
+        }
+        print_object("list", "summary", about)
         return
     end = (
         f"{listed:,} of {pictures_in_words(answer.count())}"
@@ -213,10 +219,15 @@ def _print_end_of_counts(form: _Form, answer: Answer, label: str) -> int:
     having, without, not_known = answer.having(label)
     total = having + without + not_known
     if form.output.json:
-        paths = {"may_have": answer.paths_not_known(label), "may_fit": answer.paths_not_known()}
-        names: Members = {name: list(map(path_members, of_name)) for name, of_name in paths.items()}
-        numbers = {"pictures": total, "with": having, "not_known": not_known, "stands_for": ambiguous_in(answer.places)}
-        print_object("list", "summary", {**numbers, **names})
+        about = {
+            "pictures": total,
+            "with": having,
+            "not_known": not_known,
+            "stands_for": ambiguous_in(answer.places),
+            "may_have": list(map(path_members, answer.paths_not_known(label))),
+            "may_fit": list(map(path_members, answer.paths_not_known())),
+        }
+        print_object("list", "summary", about)
         return not_known
     more = f"; {not_known:,} not known: {_unread(answer.why_not_known(label))}" if not_known else ""
     of_new = f", of {pictures_in_words(total)}{_since_then(form.since, total)}" * bool(form.since)

@@ -162,7 +162,14 @@ def _mended_members(picture: bytes, result: mend.Mended | None, problem: str = "
     mended = result or mend.Mended(mend.Remedy.NONE, {})
     if mended.problem:
         problem, _, detail = mended.problem.partition(": ")
-    known: Members = {"step": mended.remedy, "before": mended.before, "lost": mended.lost, "gained": mended.gained}
-    repaired = [it._asdict() for it in mended.repairs]
-    rest = {"not_read": mended.damage, "damage": mended.cut_off or None}
-    return {**picture_object(picture, problem, detail), **known, "repairs": repaired, **rest, "written": mended.is_written}
+    return {
+        **picture_object(picture, problem, detail),
+        "step": mended.remedy,
+        "before": mended.before,
+        "lost": mended.lost,
+        "gained": mended.gained,
+        "repairs": [it._asdict() for it in mended.repairs],
+        "not_read": mended.damage,
+        "damage": mended.cut_off or None,
+        "written": mended.is_written,
+    }

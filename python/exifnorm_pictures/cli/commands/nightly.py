@@ -368,11 +368,15 @@ def _end(night: Night) -> list[str]:
 
 def _print_objects(night: Night) -> None:
     for news in night.news:
-        pictures = [{**path_members(path), "to": path_or_none(to)} for path, to in news.names]
-        about = {"about": news.about or None, "to": news.to or None}
-        print_object(
-            "nightly", "news", {"news": news.kind, **about, "is_open": news.kind.is_open, "count": news.count, "pictures": pictures}
-        )
+        about = {
+            "news": news.kind,
+            "about": news.about or None,
+            "to": news.to or None,
+            "is_open": news.kind.is_open,
+            "count": news.count,
+            "pictures": [{**path_members(path), "to": path_or_none(to)} for path, to in news.names],
+        }
+        print_object("nightly", "news", about)
     now, before = night.broken or (None, None)
     summary = {
         "since": night.since or None,

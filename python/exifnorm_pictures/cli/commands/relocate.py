@@ -20,9 +20,10 @@ from ..output import answer
 def run(arguments: argparse.Namespace) -> int:
     """Gives pictures of a catalogue their names below another folder; the files stay."""
     name, old, new = arguments.source, os.fsencode(arguments.old), os.fsencode(arguments.new)
+    old_folder, new_folder = os.path.abspath(old), os.path.abspath(new)
     if not os.path.isdir(new):
         raise WrongUse(f"{shown_path(new)} is no folder: give the folder where the pictures of {shown_path(old)} are now")
-    if os.path.abspath(new).startswith(os.path.abspath(old).rstrip(b"/") + b"/"):
+    if new_folder.startswith(old_folder.rstrip(b"/") + b"/"):
         raise WrongUse(f"{shown_path(new)} lies below {shown_path(old)}, where the catalogue may have other pictures")
     if shards.is_of_folder(name):
         raise NoCatalogue(
@@ -31,10 +32,10 @@ def run(arguments: argparse.Namespace) -> int:
         )
     roll_back(name)
     with Catalogue(name) as catalogue:  # it is one; a missing one isn't made
-        if next(catalogue.below(os.path.abspath(old)), None) is None:
+        if next(catalogue.below(old_folder), None) is None:
             raise WrongUse(f"{name} has no picture below {shown_path(old)}")
     with Catalogue(name, make=True) as catalogue:
-        counts = relocated(catalogue, os.path.abspath(old), os.path.abspath(new))
+        counts = relocated(catalogue, old_folder, new_folder)
     numbers = {"as_before": counts[AS_BEFORE], "changed": counts[CHANGED], "absent": counts[ABSENT]}
     about: Members = {"old": path_members(old), "new": path_members(new), **numbers}
     answer(group_of(Output, arguments), "relocate", "summary", about, _lines(old, new, counts))

@@ -90,7 +90,7 @@ class _Texts:
 
     def differ_in(self, group: Group) -> bool:
         """Whether the pictures of a group have other texts of the label that they have to differ in, if there is one."""
-        if self.label is None or self._answer is None:
+        if self.label is None or not self._answer:
             return True
         at = self.labels.index(self.label)
         if len({frozenset(map(folded, self.of(picture)[at] or ())) for picture in group.members}) > 1:
@@ -354,12 +354,19 @@ def _not_counted(group: Group) -> Iterator[tuple[bytes, str]]:
 
 
 def _summary(listed: _Listed, groups: Groups, left: _Left) -> Members:
-    totals = {"groups": sum(listed.groups.values()), "pictures": sum(listed.pictures.values()), "undecided": left.undecided}
-    totals.update(undecided_parts=left.but_for_parts, after_repair=left.after_repair)
-    missing = {"small_groups": groups.small, "absent_groups": groups.absent, "maker_notes_unknown": left.but_for_notes}
     texts = listed.texts
-    alike = {"alike": texts.alike, "alike_not_known": texts.not_known} if texts.label else {}
-    return {**totals, **missing, **alike, **members_of(listed.choice)}
+    return {
+        "groups": sum(listed.groups.values()),
+        "pictures": sum(listed.pictures.values()),
+        "undecided": left.undecided,
+        "undecided_parts": left.but_for_parts,
+        "after_repair": left.after_repair,
+        "small_groups": groups.small,
+        "absent_groups": groups.absent,
+        "maker_notes_unknown": left.but_for_notes,
+        **({"alike": texts.alike, "alike_not_known": texts.not_known} if texts.label else {}),
+        **members_of(listed.choice),
+    }
 
 
 def _print_group(number: int, group: Group, keeps: Keeps, texts: _Texts) -> None:
@@ -378,9 +385,14 @@ def _print_group(number: int, group: Group, keeps: Keeps, texts: _Texts) -> None
     }
     print(line_of("same", "group", known)[:-1], end=', "pictures": [')
     for at, picture in enumerate(group.members):
-        more: Members = {"texts": listed_texts.member(texts.labels, texts.of(picture))} if texts.labels else {}
         keep = keeps.get(picture.id, _without_advice(picture))
-        about = {"keep": keep.keep, "keep_note": keep.note() or None, "reason": group.reasons.get(picture.id) or None}
-        others = {"others": group.others.get(picture.id, 0)}
-        print(", " * (at > 0) + json.dumps({**path_members(picture.path), **about, **others, **more}), end="")
+        about: Members = {
+            **path_members(picture.path),
+            "keep": keep.keep,
+            "keep_note": keep.note() or None,
+            "reason": group.reasons.get(picture.id) or None,
+            "others": group.others.get(picture.id, 0),
+            **({"texts": listed_texts.member(texts.labels, texts.of(picture))} if texts.labels else {}),
+        }
+        print(", " * (at > 0) + json.dumps(about), end="")
     print("]}")

@@ -8,7 +8,7 @@ import os
 import sys
 from collections import Counter
 from datetime import datetime, timezone
-from typing import BinaryIO, Callable, Iterable, Iterator, NamedTuple, Sequence
+from typing import BinaryIO, Iterable, Iterator, NamedTuple, Sequence
 
 from ...catalogue.store import Catalogue, NoCatalogue
 from ...comparison.verified import PAYLOAD, State, Verified, fill, looker, new_files, payload, verified
@@ -265,7 +265,7 @@ def _bag(files: _Files, folder: bytes) -> Iterator[bytes]:
         yield digest.encode("ascii") + b"  " + encoded + b"\n"
 
 
-_FORMS: dict[str, Callable[[_Files, bytes], Iterator[bytes]]] = {"sha256sum": _sums, "hashdeep": _hashdeep, "bagit": _bag}
+_FORMS = {"sha256sum": _sums, "hashdeep": _hashdeep, "bagit": _bag}
 _READERS = {"sha256sum": "for sha256sum -c", "hashdeep": "for hashdeep -a -k", "bagit": "as the manifest of a bag"}
 
 

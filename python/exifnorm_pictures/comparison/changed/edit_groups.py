@@ -10,7 +10,7 @@ from typing import Collection, Iterable, Sequence
 from ...model.found import STANDARDS
 from ...model.texts import pictures_in_words
 from ..wording import IN, KEPT, OUT, FieldDifference, Step, look
-from .edits import NUMBERED, line_of, NUMBERS, Edit, digest, edits_of, places_of, numberless
+from .edits import NUMBERED, line_of, NUMBERS, Edit, Edits, digest, edits_of, places_of, numberless
 
 # Different sets of edits, and edits of all of them. Nobody reads so many groups, and they take
 # 11 MB at most; pictures of further sets are counted, which the page says.
@@ -173,7 +173,7 @@ class Kinds:
         many = pictures_in_words(self.further)
         return [f"More than {KINDS:,} kinds of edit: {many} more, which aren't grouped"] * bool(self.further)
 
-    def _new(self, identity: tuple[bytes, ...], edits: dict[bytes, Edit]) -> int:
+    def _new(self, identity: tuple[bytes, ...], edits: Edits) -> int:
         """The number of a new kind, or 0 if there are too many."""
         if len(self.kinds) >= KINDS or self._edits + len(edits) > EDITS:
             return 0

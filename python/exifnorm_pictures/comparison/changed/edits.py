@@ -47,6 +47,9 @@ _DIGITS = re.compile(r"\d+")
 _DONE = {IN: "added", OUT: "removed", "~": "other bytes"}
 
 
+Steps = tuple[Step, ...]
+
+
 class Edit(NamedTuple):
     """What somebody did to a text, a list or another value.
 
@@ -55,7 +58,7 @@ class Edit(NamedTuple):
     """
 
     name: str  # the label of its fields, such as `caption`, or the name of the field
-    steps: tuple[Step, ...] = ()
+    steps: Steps = ()
     note: str = ""
     fields: tuple[str, ...] = ()
     value: str = ""  # the new value; empty if there is none
@@ -71,7 +74,7 @@ class Edit(NamedTuple):
         return "~" if self.note or len(signs) != 1 else signs.pop()
 
     @property
-    def core(self) -> tuple[Step, ...]:
+    def core(self) -> Steps:
         """What equal edits have in common: what was taken out and put in, and whether that is
         between kept words."""
         signs = [it.sign for it in self.steps]
@@ -94,7 +97,7 @@ class Edit(NamedTuple):
         return digest(repr((self.name, self.note, [*chain(*numberless(self.core))])))
 
 
-def numberless(steps: Sequence[Step]) -> tuple[Step, ...]:
+def numberless(steps: Sequence[Step]) -> Steps:
     """Words with `#` in place of each number."""
     return tuple(Step(it.sign, _DIGITS.sub("#", it.text)) for it in steps)
 
@@ -119,11 +122,14 @@ def digest(text: str) -> bytes:
     return hashlib.sha256(text.encode("utf-8", "surrogatepass")).digest()[:16]
 
 
-def edits_of(changes: Sequence[FieldDifference], has_parts: bool = True) -> dict[bytes, Edit]:
+Edits = dict[bytes, Edit]  # by their keys
+
+
+def edits_of(changes: Sequence[FieldDifference], has_parts: bool = True) -> Edits:
     """The edits of a picture, with their keys, by the fields that differ: those with a label first,
     and last what programs write by themselves. A block or directory that came or went is one edit,
     but for the texts that came with it, unless only some fields are compared."""
-    edits: dict[bytes, Edit] = {}
+    edits: Edits = {}
     for edit in _single(changes, _parts(changes) if has_parts else {}):
         _add(edits, edit)
     major = [(key or it.key, it) for key, it in edits.items() if not it.is_minor]
@@ -133,7 +139,7 @@ def edits_of(changes: Sequence[FieldDifference], has_parts: bool = True) -> dict
     return dict([*major, (minor.key, minor)] if names else major)
 
 
-def _add(edits: dict[bytes, Edit], edit: Edit) -> None:
+def _add(edits: Edits, edit: Edit) -> None:
     """Adds an edit to those of a picture, of which equal ones are one."""
     key = edit.key
     known = edits.get(key)
@@ -154,7 +160,7 @@ def _parts(changes: Sequence[FieldDifference]) -> dict[_Part, str]:
     """The blocks and directories that came or went. A small one isn't an edit by itself: what
     counts are the texts that came with it, or the only one that went with it."""
     parted = [it for it in changes if it.part]
-    texts: dict[_Part, set[str]] = defaultdict(set)
+    texts = defaultdict(set)
     for change in parted:
         if _has_label(change):
             texts[change.sign, change.part].add(_name(change))
@@ -256,7 +262,7 @@ def _of_values(change: FieldDifference) -> Edit:
 
 
 @functools.lru_cache(maxsize=8)
-def _script(before: str, after: str) -> tuple[Step, ...]:
+def _script(before: str, after: str) -> Steps:
     """How a text becomes another one: often the same in Exif, IPTC and XMP."""
     return tuple(Marker(STEPS).script(before, after))
 

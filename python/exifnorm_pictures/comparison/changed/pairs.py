@@ -9,15 +9,15 @@ import sqlite3
 import unicodedata
 from collections import Counter, defaultdict
 from itertools import chain
-from typing import Any, Callable, Hashable, Iterable, Iterator, NamedTuple, Sequence, TypeVar
+from typing import Callable, Hashable, Iterable, Iterator, NamedTuple, Sequence, TypeVar
 
 from ...catalogue.store import BLOCK_COLUMNS, PICTURE_COLUMNS, Catalogue, NoCatalogue, address, check_schema, connect, unlike
 from ...fields.packing import fields_of, with_kept_fields
 from ...fields.field import Field
 from ...files import signals
 from ...judge.sides import AFTER, BEFORE, Sides
-from ...model.records import PICTURES, BlockRecord, PictureRecord, block_of_row, not_read_of_row, picture_of_row
-from ...model.columns import Damaged
+from ...model.records import PICTURES, BlockRecord, PictureRecord, Row, block_of_row, not_read_of_row, picture_of_row
+from ...model.errors import Damaged
 from ...model.found import NotRead
 from ...model.problems import NOT_THERE
 from ...model.texts import grouped
@@ -339,7 +339,7 @@ class Pairs(Sides):
         paired = f"SELECT 1 FROM {_BASES[1 - side]}.pictures AS {other} WHERE {on}"
         return f"SELECT {mine}.id FROM {_BASES[side]}.pictures AS {mine} WHERE {_is_there(mine)} AND NOT EXISTS ({paired})"
 
-    def _alone(self, side: int, key: str, has_taken: bool) -> Iterator[tuple[object, ...]]:
+    def _alone(self, side: int, key: str, has_taken: bool) -> Iterator[Row]:
         """The number, the digests and the key of each picture that isn't paired yet, by key and path, also of those whose name has another file.
         SQLite has sorted them before the first is fetched."""
         key = f"form(substr(path, {len(self.heads[side]) + 1}))" if key == _FORM else key
@@ -380,7 +380,7 @@ class Pairs(Sides):
         )
         yield from self._rows(query, self._pair_of_row)
 
-    def _pair_of_row(self, row: tuple[object, ...]) -> Pair:
+    def _pair_of_row(self, row: Row) -> Pair:
         name, place, moved, is_edited = self._named(BEFORE, row[1]), *row[-6:-3]
         to = None if place is None else self._named(AFTER, place)
         is_one = to is not None and shown_form(to) == shown_form(name)
@@ -458,7 +458,7 @@ class Pairs(Sides):
         with self.catalogues[side].guarded():
             return [factory(row) for row in self.base.execute(query, (picture.id,))]
 
-    def _picture(self, side: int, row: tuple[Any, ...]) -> PictureRecord:
+    def _picture(self, side: int, row: Row) -> PictureRecord:
         with self.catalogues[side].guarded():
             return picture_of_row(row)
 
@@ -477,7 +477,7 @@ def _content(size: int, unread: str, *octets: str) -> bytes:
     return hashlib.sha256(repr(content_key(octets, unread, size)).encode("utf-8", "surrogatepass")).digest()
 
 
-def _equal(rows: Iterator[tuple[object, ...]], others: Iterator[tuple[object, ...]], both: bool) -> Iterator[tuple[object, object]]:
+def _equal(rows: Iterator[Row], others: Iterator[Row], both: bool) -> Iterator[tuple[object, object]]:
     """The numbers of the rows with equal keys in two sequences that are in the order of their keys, each once. A row has a number, two digests,
     and then its key; no two are returned of which a digest is known to differ: the second one, or `both`.
 

@@ -34,9 +34,9 @@ if TYPE_CHECKING:
 # The blocks of two pictures in pairs of one name: the fields that differ, how much each of them weighs, and how the blocks are read.
 
 Block = Optional[BlockRecord]
-Repair = tuple[str, tuple[steps.Step, ...], tuple[steps.Step, ...]]  # the name of a block, and the steps before and after
+Repair = tuple[str, steps.Steps, steps.Steps]  # the name of a block, and the steps before and after
 Lost = Sequence[Sequence[str]]  # the kinds of blocks that may be missing of each of two damaged files
-NOTHING: Lost = ((), ())
+NOTHING = ((), ())
 
 
 class Weight(IntEnum):
@@ -49,11 +49,13 @@ class Weight(IntEnum):
 
 
 # What the heaviest difference of a kind makes of the verdict on the kind
-_TURNS: dict[Weight, dict[Result, Result]] = {
-    Weight.MAY_BE_MISSING: {Result.DIFFERENT: Result.NOT_KNOWN, Result.DIFFERENT_REPAIRED: Result.NOT_KNOWN},
-    Weight.EQUAL_NUMBER: {Result.DIFFERENT: Result.SAME_NUMBERS, Result.DIFFERENT_REPAIRED: Result.SAME_REPAIRED},
-    Weight.LEFT_OUT: {Result.DIFFERENT: Result.SAME_BUT, Result.DIFFERENT_REPAIRED: Result.SAME_REPAIRED},
-    Weight.COUNTS: {},
+_TURNS = {
+    weight: {Result.DIFFERENT: result, Result.DIFFERENT_REPAIRED: of_repaired}
+    for weight, result, of_repaired in (
+        (Weight.MAY_BE_MISSING, Result.NOT_KNOWN, Result.NOT_KNOWN),
+        (Weight.EQUAL_NUMBER, Result.SAME_NUMBERS, Result.SAME_REPAIRED),
+        (Weight.LEFT_OUT, Result.SAME_BUT, Result.SAME_REPAIRED),
+    )
 }
 
 
@@ -90,9 +92,10 @@ class Details(NamedTuple):
     def turns(self) -> Turns:
         """What becomes of the verdict on each kind."""
         heaviest: dict[str, Weight] = {}
-        for kind, weight in ((seen.kind, weight) for seen in self.every for weight in seen.weights):
-            heaviest[kind] = max(weight, heaviest.get(kind, weight))
-        return {kind: _TURNS[weight] for kind, weight in heaviest.items()}
+        for seen in self.every:
+            for weight in seen.weights:
+                heaviest[seen.kind] = max(weight, heaviest.get(seen.kind, weight))
+        return {kind: _TURNS[weight] for kind, weight in heaviest.items() if weight in _TURNS}
 
     def closer(self, different: Sequence[str]) -> Result:
         """A known difference by its name, with the kinds that differ: `different`, unless only a MakerNote or the form of numbers does."""
@@ -232,7 +235,7 @@ def _readings(name: str, *blocks: Block) -> list[str]:
 def _refused(name: str, old: Block, new: Block) -> list[str]:
     """The same without any repair."""
     if _are_readable(old, new):
-        return [f"no {name} {word}" for word, block in (("before", old), ("after", new)) if block is None]
+        return [f"no {name} {word}" for word, block in (("before", old), ("after", new)) if not block]
     texts = {word: it.refusal if not it.is_accepted else "accepted" for word, it in (("before", old), ("after", new)) if it}
     if _have(old, new, "octets") and texts["before"] != "accepted":
         return [f"{name}: {texts['before']}"]
@@ -251,7 +254,7 @@ def _repaired(name: str, old: Block, new: Block) -> list[str]:
 
 
 def _status(block: Block) -> str:
-    if block is None:
+    if not block:
         return "none"
     if not block.repair:
         return block.status if block.is_accepted else f"{block.status}, {block.refusal}"
@@ -296,7 +299,7 @@ def noted(before: Noted, old: PictureRecord, new: PictureRecord, sides: Sides, s
     from ...judge import maker_notes  # which is seldom needed
 
     answer = maker_notes.compared_notes(session, sides, old, new) if session else None
-    if answer is None:
+    if not answer:
         return _not_asked(
             before, notes, [word for word, it in zip(("earlier", "later"), (old, new)) if session and not maker_notes.is_as_it_was(it)]
         )
@@ -392,7 +395,7 @@ class Compared(NamedTuple):
     moved_to: bytes | None = None
     partner: bytes | None = None  # the picture with the same stem with which it was compared
     maker_note: "Optional[list[maker_notes.NoteDifference]]" = None  # the values that ExifTool reads otherwise, if it was asked
-    repairs: Sequence[tuple[str, tuple[steps.Step, ...], tuple[steps.Step, ...]]] = ()  # of each block, before and after
+    repairs: Sequence[Repair] = ()  # of each block
     left_out: Sequence[str] = ()  # fields and kinds that differ and don't count
     picture: Coded = Coded.UNKNOWN  # what is known of the coded picture
     parts: Sequence[str] = ()  # what has come, gone or changed of the rest of the file

@@ -196,9 +196,9 @@ def history(name: bytes, catalogues: Sequence[Catalogue]) -> Iterator[State]:
     was_there = False
     for catalogue, place, old in zip(ordered, places, [_Place(None), *places]):
         comparison = None
-        if before is not None and old.path is not None:
+        if before and old.path is not None:
             comparison = next(changed(before, catalogue, Counter(), {old.path}, every=True), None)
-            if comparison is not None and comparison.result == Result.MISSING_AFTER and place.path is not None:
+            if comparison and comparison.result == Result.MISSING_AFTER and place.path is not None:
                 comparison = None  # it is gone from where it was, and another one has its name
         is_back = was_there and comparison is None and place.path is not None
         yield State(catalogue.name, _when(catalogue), place.path, comparison, place.may_be_elsewhere, is_back)
@@ -245,7 +245,7 @@ def _place(catalogue: Catalogue, other: Catalogue, place: _Place) -> _Place:
         return place
     with contextlib.closing(Pairs(catalogue, other, {place.path})) as pairs:
         pair = next(pairs.differing(every=True), None)
-        name = None if pair is None else pair.place if pair.place is not None else pair.name if pair.new is not None else None
+        name = None if not pair else pair.place if pair.place is not None else pair.name if pair.new is not None else None
         if name is None:
             has_digests = catalogue.has_digests() and other.has_digests()
             return _Place(None, not has_digests and pairs.has_others())

@@ -180,10 +180,11 @@ class Between:
         return True
 
     def _moved(self, name: bytes, to: bytes, is_renumbered: bool) -> None:
-        self.moves[self._full(0, name)] = self._full(1, to)
+        old = self._full(0, name)
+        self.moves[old] = self._full(1, to)
         if is_renumbered:
-            self._renumbered.add(self._full(0, name))
-        self.absent.has_moved(self._full(0, name))
+            self._renumbered.add(old)
+        self.absent.has_moved(old)
 
     def _not_read(self, name: bytes) -> bool:
         """Counts a file that wasn't read at one of two nights."""

@@ -4,7 +4,7 @@ from __future__ import annotations
 
 import hashlib
 from itertools import islice
-from typing import Any, Iterator, NamedTuple, Sequence
+from typing import Iterator, NamedTuple, Sequence
 
 from ...catalogue.store import Catalogue
 from ...fields.choosing import Choice
@@ -13,7 +13,7 @@ from ...fields.listing import MAKER_NOTE, exact
 from ...fields.packing import unpacked
 from ...model import steps
 from ...model.found import EXIF, KINDS, other_name
-from ...model.records import PICTURES, Status, has, joined, kind_of
+from ...model.records import PICTURES, Row, Status, has, joined, kind_of
 from ..wording import equal_form
 
 _BATCH = 1000  # rows that are written at once
@@ -65,7 +65,7 @@ def _columns(choice: Choice) -> str:
     return ", ".join(f"{columns.get(it, f'pictures.{it}')} AS {it}" for it in PICTURES.names)
 
 
-def _rows(catalogue: Catalogue, choice: Choice) -> Iterator[tuple[object, ...]]:
+def _rows(catalogue: Catalogue, choice: Choice) -> Iterator[Row]:
     """A row for each picture with blocks."""
     for picture, rows in catalogue.packed_fields("kind, name, status, ifnull(digest, repaired), octets, repair"):
         with catalogue.guarded():
@@ -73,7 +73,7 @@ def _rows(catalogue: Catalogue, choice: Choice) -> Iterator[tuple[object, ...]]:
         yield (picture, *_row(blocks, choice))
 
 
-def _counted(row: tuple[Any, ...], choice: Choice) -> _Counted:
+def _counted(row: Row, choice: Choice) -> _Counted:
     word, name, status, digest, octets, repair, packed = row
     has(str, word, name, status, octets, *(it for it in (digest, repair) if it is not None))
     meaning = digest or octets
@@ -106,7 +106,7 @@ def _sum_of(fields: Sequence[Field]) -> str:
     return _sum([it._identity for it in fields])
 
 
-def _sum(rows: Sequence[tuple[object, ...]]) -> str:
+def _sum(rows: Sequence[Row]) -> str:
     return hashlib.sha256(repr(rows).encode("utf-8", "surrogatepass")).hexdigest()
 
 
@@ -119,7 +119,7 @@ def _together(blocks: Sequence[_Counted], kind: str, what: str) -> str | None:
     return joined(there) if there else ""
 
 
-def _row(blocks: Sequence[_Counted], choice: Choice) -> tuple[object, ...]:
+def _row(blocks: Sequence[_Counted], choice: Choice) -> Row:
     """The digest of each kind, of Exif after repairs, of all that the picture means, and of all its fields."""
     digests = [_together(blocks, kind, "digest") if kind in choice.kinds else "" for kind in KINDS]
     repaired = _together(blocks, EXIF, "repaired") if digests[0] is None else None

@@ -337,7 +337,7 @@ def _key(picture: PictureRecord, reads: bool) -> _Key:
         return _NO_KEY
     if picture.coded_picture:
         return "picture", picture.coded_picture
-    digest: str | None = picture.sha256 or picture.file
+    digest = picture.sha256 or picture.file
     if reads and not digest:
         from ...extract.formats.streams import digest_of_file  # which is seldom needed
 

@@ -195,8 +195,10 @@ def _reason(catalogue: Catalogue, picture: PictureRecord, basis: Basis) -> str:
 
 def _fields_of(catalogue: Catalogue, group: Group, choice: Choice) -> int | None:
     """The number of fields that count of the first picture, by its blocks; None if they aren't known."""
-    count = 0
-    for block in [] if group.members[0].file else catalogue.blocks_of(group.members[0]):
+    count, first = 0, group.members[0]
+    if first.file:
+        return None
+    for block in catalogue.blocks_of(first):
         if block.kind not in group.shared.kinds:
             continue
         with catalogue.guarded():
@@ -204,7 +206,7 @@ def _fields_of(catalogue: Catalogue, group: Group, choice: Choice) -> int | None
         if fields is None:
             return None
         count += len(choice.of(fields, other_name(block.name)))
-    return None if group.members[0].file else count
+    return count
 
 
 class Compared(NamedTuple):

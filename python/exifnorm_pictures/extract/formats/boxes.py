@@ -11,7 +11,7 @@ from typing import Callable, Iterator, NamedTuple
 from ...model.budgets import BOX_BYTES, BOXES, budget_of
 from ...model.found import CUT, REST, SIX, XMP, Blocks, Broken, damage
 from ...model.tiff_types import HEADS
-from .packet_start import begins_packet
+from ...model.xmp_encodings import begins_packet
 from .streams import CREDENTIALS, Stream, leave, leave_rest, leave_whole, read_at, size_of
 
 _LONGEST_HEAD = 32
@@ -175,3 +175,30 @@ class Fields:
             raise Broken(f"the {self.name} has a text without end")
         text, self.at = self.data[self.at : end], end + 1
         return text
+
+
+# Canon's box uuid in CR3 and HEIF files: the main directory, Exif, MakerNote and GPS, each a TIFF structure in a box of its own.
+
+CANON_UUID = bytes.fromhex("85c0b687820f11e08111f4ce462b6a48")
+CNCV, CMT1, CMT2, CMT3, CMT4 = b"CNCV CMT1 CMT2 CMT3 CMT4".split()
+_CANON_OTHERS = frozenset(b"CCTP CTBO THMB free".split())  # kinds and places of tracks, thumbnail
+
+
+def canon_parts(blocks: Blocks, stream: Stream, box: Box) -> dict[bytes, Box]:
+    """The version and the structures of the box. Other boxes in it are named. Raises `Broken`."""
+    structures = {}
+    for structure in boxes(stream, box.start, box.end):
+        if structure.kind in (CNCV, CMT1, CMT2, CMT3, CMT4):
+            if structure.kind in structures:
+                raise Broken(f"a second {structure.name}")
+            structures[structure.kind] = structure
+        elif structure.kind not in _CANON_OTHERS:
+            leave(blocks, f"{structure.name} of Canon", stream, structure.start, structure.end)
+    return structures
+
+
+def leave_canon(blocks: Blocks, stream: Stream, box: Box) -> None:
+    """Names the structures, in a picture whose Exif is elsewhere. Raises `Broken`."""
+    for structure in canon_parts(blocks, stream, box).values():
+        if structure.kind != CNCV:
+            leave(blocks, f"{structure.name} of Canon", stream, structure.start, structure.end)

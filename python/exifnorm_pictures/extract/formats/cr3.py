@@ -13,10 +13,25 @@ from ...model.budgets import EXTENTS, Budget, budget_of
 from ...model.found import EXIF, Blocks, Broken, LeftToOthers, NotRead
 from ...model.tiff_types import HEADS, LONG
 from ..structure import gaps
-from .boxes import XMP_UUID, Box, Fields, add_xmp, boxes, boxes_of_file, content, leave_cut
-from .canon import CMT1, CMT2, CMT3, CMT4, CNCV, UUID, parts
-from .streams import Stream, digest_of_parts, is_blank, leave, size_of
-from .tiff_directories import IN_ENTRY, NOWHERE, Directories, Directory, Entry, Layout, Table, is_pointer
+from .boxes import (
+    CANON_UUID,
+    CMT1,
+    CMT2,
+    CMT3,
+    CMT4,
+    CNCV,
+    XMP_UUID,
+    Box,
+    Fields,
+    add_xmp,
+    boxes,
+    boxes_of_file,
+    canon_parts,
+    content,
+    leave_cut,
+)
+from .streams import Range, Stream, digest_of_parts, is_blank, leave, size_of
+from .tiff_directories import IN_ENTRY, NOWHERE, Directories, Entry, Layout, Table, is_pointer
 
 # The TIFF structures of a CR3 as one Exif block, as other pictures have it: the main directory with pointers to Exif and GPS, and the
 # MakerNote in its tag. The MakerNote keeps its header, from which its offsets count. Its values are laid out one after another, since
@@ -53,7 +68,7 @@ class _Joined(Directories):
     """The structures one after another. The offsets of each count from its own header, and here from the first."""
 
     def __init__(self, structures: dict[bytes, bytes], budget: Budget) -> None:
-        self._ranges: dict[bytes, tuple[int, int]] = {}
+        self._ranges: dict[bytes, Range] = {}
         joined = b""
         if CMT3 in structures:
             structures = {**structures, CMT3: _laid_out(structures[CMT3], budget)}
@@ -93,7 +108,7 @@ class _Joined(Directories):
     def _directory(self, kind: bytes, offset: int) -> list[Entry]:
         """The entries of a directory, whose values are in its own structure or nowhere."""
         start, end = self._ranges[kind]
-        directory: Directory = self.read(start + offset)
+        directory = self.read(start + offset)
         if directory.following or directory.end > end:
             raise Broken("a further directory, or one that isn't in its box")
         return [it if it.size <= IN_ENTRY else it._replace(last=self._moved(it, start, end)) for it in directory.entries]
@@ -171,8 +186,8 @@ def read(stream: Stream, whole: bool = False) -> Blocks:
 def _movie(blocks: Blocks, stream: Stream, moov: Box) -> None:
     structures: dict[bytes, Box] = {}
     for box in boxes(stream, moov.start, moov.end):
-        if box.uuid == UUID and not structures:
-            structures = parts(blocks, stream, box)
+        if box.uuid == CANON_UUID and not structures:
+            structures = canon_parts(blocks, stream, box)
         elif box.kind == b"trak":
             _Track(blocks, stream, box).take()
         elif box.kind not in _WITHOUT_IN_MOVIE:
@@ -180,7 +195,7 @@ def _movie(blocks: Blocks, stream: Stream, moov: Box) -> None:
     if CMT1 not in structures:
         raise Broken("the file has no CMT1 box")
     version = structures.pop(CNCV, None)
-    if version is not None and not content(stream, version).startswith(b"CanonCR3"):
+    if version and not content(stream, version).startswith(b"CanonCR3"):
         raise LeftToOthers("a film of Canon")
     _add_exif(blocks, stream, structures)
 
@@ -236,7 +251,7 @@ class _Track:
             raise Broken(f"a track has no {kind.decode('ascii')} box")
         return content(self.stream, self._boxes[kind])
 
-    def _samples(self) -> list[tuple[int, int]] | None:
+    def _samples(self) -> list[Range] | None:
         """The ranges of the samples; None unless each is a chunk by itself, as Canon writes them."""
         sizes = Fields(self._content(b"stsz"), "stsz box")
         wide = 8 if b"co64" in self._boxes else 4

@@ -8,13 +8,12 @@ from __future__ import annotations
 
 import zlib
 from operator import itemgetter
-from typing import Callable, NamedTuple
+from typing import NamedTuple
 
 from ...model.budgets import BOX_BYTES, EXTENTS, ITEMS, budget_of
 from ...model.found import EXIF, IN_PICTURE, XMP, Blocks, Broken, NotRead
-from . import canon
-from .boxes import XMP_UUID, Box, Fields, add_xmp, boxes, boxes_of_file, content, exif_in
-from .streams import Stream, digest_of_parts, leave, read_at, size_of
+from .boxes import CANON_UUID, XMP_UUID, Box, Fields, add_xmp, boxes, boxes_of_file, content, exif_in, leave_canon
+from .streams import Range, Stream, digest_of_parts, leave, read_at, size_of
 
 # The items of a HEIF file: what the box meta says of each picture and of each block (ISO/IEC 14496-12, 8.11; ISO/IEC 23008-12).
 
@@ -54,7 +53,7 @@ class Place(NamedTuple):
     method: int  # 0: in the file, 1: in the box idat, 2: in other items
     is_elsewhere: bool  # in another file
     has_lengths: bool
-    extents: list["tuple[int, int]"]  # offset and length of each part
+    extents: list[Range]  # offset and length of each part
 
 
 class Items:
@@ -130,7 +129,7 @@ class Items:
                 raise Broken(f"item {number} has no certain place")
             self.places[number] = Place(method, is_elsewhere, length > 0, extents)
 
-    def _extent(self, fields: Fields, start: int, sizes: "tuple[int, int, int]") -> "tuple[int, int]":
+    def _extent(self, fields: Fields, start: int, sizes: "tuple[int, int, int]") -> Range:
         index, offset, length = sizes
         fields.number(index)
         return start + fields.number(offset), fields.number(length)
@@ -187,7 +186,7 @@ class Items:
         return " and ".join(names.get(it, f"item {it}") for it in described)
 
 
-READERS: dict[bytes, Callable[[Items, Box], None]] = {
+READERS = {
     b"hdlr": Items._hdlr,
     b"pitm": Items._pitm,
     b"idat": Items._idat,
@@ -225,7 +224,7 @@ def read(stream: Stream, whole: bool = False) -> Blocks:
     meta = None
     for box in boxes_of_file(blocks, stream, lambda kinds: b"mdat" in kinds and bool(kinds & {b"meta", b"moov"})):
         if box.kind == b"meta":
-            if meta is not None:
+            if meta:
                 raise Broken("the file has two meta boxes")
             meta = box
             Reader(stream, blocks).read(box)
@@ -256,8 +255,8 @@ class Reader:
                 READERS[box.kind](self.items, box)
             elif box.kind == b"iprp":
                 self._properties(box)
-            elif box.uuid == canon.UUID:
-                canon.leave_all(self.blocks, self.stream, box)
+            elif box.uuid == CANON_UUID:
+                leave_canon(self.blocks, self.stream, box)
             elif box.kind not in _WITHOUT_IN_META:
                 self._leave(f"{box.name} in meta", box)
         self.items.check()
@@ -302,7 +301,7 @@ class Reader:
         else:
             self.blocks.name(NotRead(what, digest_of_parts(self.stream, ranges)))
 
-    def _packet(self, item: Item, ranges: list[tuple[int, int]]) -> bytes | None:
+    def _packet(self, item: Item, ranges: list[Range]) -> bytes | None:
         """The packet of an item, which may be compressed as by zlib; None if it can't be read."""
         if item.encoding not in (b"", b"deflate"):
             return None
@@ -317,15 +316,15 @@ class Reader:
         self.blocks.budget.spend(BOX_BYTES, len(packet))
         return packet if opened.eof and not opened.unused_data else None
 
-    def ranges(self, item: Item) -> list[tuple[int, int]] | None:
+    def ranges(self, item: Item) -> list[Range] | None:
         """The parts of the file that an item has; None if it is elsewhere, or consists of other items."""
         place = self.items.places.get(item.number)
-        if place is None or place.is_elsewhere or not place.has_lengths or place.method > 1:
+        if not place or place.is_elsewhere or not place.has_lengths or place.method > 1:
             return None  # without lengths it is all of the file or of idat
         start, end, fault = 0, size_of(self.stream), f"the file ends inside item {item.number}"
         if place.method:
             idat = self.items.idat
-            if idat is None or not all(map(itemgetter(1), place.extents)):
+            if not idat or not all(map(itemgetter(1), place.extents)):
                 return None
             start, end, fault = idat.start, idat.end, f"item {item.number} isn't in the file"
         ranges = [(start + offset, start + offset + length) for offset, length in place.extents]
@@ -333,6 +332,6 @@ class Reader:
             raise Broken(fault)
         return ranges
 
-    def _data(self, ranges: list[tuple[int, int]]) -> bytes:
+    def _data(self, ranges: list[Range]) -> bytes:
         self.blocks.budget.spend(BOX_BYTES, sum(end - start for start, end in ranges))
         return b"".join(read_at(self.stream, start, end - start) for start, end in ranges)

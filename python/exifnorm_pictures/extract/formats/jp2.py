@@ -12,7 +12,7 @@ from ...model.found import EXIF, IN_PICTURE, IPTC, SIX, Blocks, Broken
 from . import photoshop, tiff
 from .boxes import XMP_UUID, Box, add_xml, add_xmp, boxes, boxes_of_file, content
 from .streams import Stream, Window, leave, read_at, size_of
-from .embedded import add_inside
+from .jpeg import add_inside
 
 START = b"\0\0\0\x0cjP  \r\n\x87\n"
 BARE = b"\xff\x4f\xff\x51"
@@ -85,7 +85,7 @@ def _take(blocks: Blocks, stream: Stream, box: Box, depth: int) -> None:
 
 
 def _uuid(blocks: Blocks, stream: Stream, box: Box) -> None:
-    where = f"uuid box at {box.at}"
+    where, size = f"uuid box at {box.at}", box.end - box.start
     if box.uuid in _KINDS:
         kind, data = _KINDS[box.uuid], content(stream, box)
         blocks.add(kind, data.removeprefix(SIX) if kind == EXIF else data, where)
@@ -93,7 +93,7 @@ def _uuid(blocks: Blocks, stream: Stream, box: Box) -> None:
         add_xmp(blocks, stream, box)
     elif box.uuid == _PHOTOSHOP:
         photoshop.add_resources(blocks, [(where, content(stream, box))])
-    elif box.uuid == _GEOTIFF and read_at(stream, box.start, min(4, box.end - box.start)) in tiff.HEADS:
-        add_inside(blocks, tiff.read(Window(stream, box.start, box.end - box.start)), "GeoTIFF", where)
-    elif box.uuid not in _SETTINGS or box.end - box.start > 4:
+    elif box.uuid == _GEOTIFF and read_at(stream, box.start, min(4, size)) in tiff.HEADS:
+        add_inside(blocks, tiff.read(Window(stream, box.start, size)), "GeoTIFF", where)
+    elif box.uuid not in _SETTINGS or size > 4:
         leave(blocks, box.name, stream, box.start, box.end)

@@ -53,6 +53,7 @@ from .streams import (
     Part,
     Range,
     Stream,
+    Window,
     digest_of,
     read_at,
     size_of,
@@ -76,7 +77,7 @@ _TABLES = frozenset((0xC4, 0xCC, 0xDA, 0xDB, 0xDD))  # DHT, DAC, SOS, DQT, DRI
 class Tail(NamedTuple):
     """The result: the offsets and lengths of the metadata segments, and the end of the picture."""
 
-    segments: "list[tuple[int, int]]"
+    segments: list[Range]
     end: int  # after the end mark, or the end of the part if there is none
     has_mark: bool
     is_read: bool = True
@@ -109,7 +110,7 @@ class Markers:
         """The next marker; 0 at the end of the part."""
         while self.at < self.end:
             mark = _MARKER.search(self._piece, self.at - self._start)
-            if mark is not None:
+            if mark:
                 self.at = self._start + mark.end()
                 return self._piece[mark.end() - 1]
             # FF as the last byte may begin a marker
@@ -145,7 +146,7 @@ def _is_plain(markers: Markers) -> bool:
         markers.pass_over()
 
 
-def segments(markers: Markers) -> Iterator[tuple[int, int]]:
+def segments(markers: Markers) -> Iterator[Range]:
     """The marker and the offset of each segment from the first scan on, once `markers` is behind it; at last 0 or the end mark."""
     budget, passed, marker = budget_of(markers.stream), 0, -1
     while marker not in (0, EOI):
@@ -182,7 +183,7 @@ _ENTRY_LENGTH = 16
 _NO_ENTRIES = (_MP_ENTRIES, 0, 1, 0)  # which are no list
 
 
-def further_pictures(data: bytes, base: int) -> list[tuple[int, int]]:
+def further_pictures(data: bytes, base: int) -> list[Range]:
     """The start and the length of each picture in the index besides the first one; `base` is the offset of the index's own header in the file.
 
     The first entry, whose offset is 0, is the picture that the index is in. Raises `Broken`.
@@ -190,7 +191,7 @@ def further_pictures(data: bytes, base: int) -> list[tuple[int, int]]:
     if data[:4] not in HEADS:
         raise Broken("the MPF index has no header")
     index = next(directories(data), None)
-    if index is None or not index.is_whole:
+    if not index or not index.is_whole:
         raise Broken("the MPF index is cut")
     start, length = next((it[3], it[2]) for it in (*index.rows, _NO_ENTRIES) if it[0] == _MP_ENTRIES)
     if length % _ENTRY_LENGTH or start + length > len(data):
@@ -327,14 +328,15 @@ class _Head:
     def segment(self, marker: int, start: int, data: bytes) -> None:
         """Adds what a segment of no known kind has."""
         kind, mark = _kind_of(marker, data)
+        marked = data[mark:]
         if kind == EXIF:
-            self._exif.append((f"APP1 segment at {start}", data[mark:]))
+            self._exif.append((f"APP1 segment at {start}", marked))
         elif kind == XMP:
-            self.blocks.add(XMP, data[mark:], f"APP1 segment at {start}", self.part)
+            self.blocks.add(XMP, marked, f"APP1 segment at {start}", self.part)
         elif kind == _RESOURCES:
-            self._runs.append((f"APP13 segment at {start}", data[mark:]))
+            self._runs.append((f"APP13 segment at {start}", marked))
         elif kind == _INDEX:
-            self.indexes.append((start + 4 + mark, data[mark:]))
+            self.indexes.append((start + 4 + mark, marked))
         elif rest_of(marker, data):
             self.pass_over(kind, data[:_FEW], len(data))
         else:
@@ -535,3 +537,25 @@ _FEW = 64  # bytes of a rest that show what it is
 def _name_of(what: str, first: bytes, last: str) -> str:
     """The name of a rest: content credentials may go on in the segments behind their first one."""
     return CREDENTIALS if what == "JUMBF" and (b"c2pa" in first or last == CREDENTIALS) else what
+
+
+# A picture inside another one: Panasonic and Fujifilm put a JPEG with all metadata into their raw pictures, and GeoTIFF is in JPEG 2000.
+
+
+def add_jpeg(blocks: Blocks, stream: Stream, start: int, length: int, part: str, whole: bool) -> None:
+    """Adds the blocks and the unread parts of the JPEG at an offset. Raises `Broken`."""
+    if read_at(stream, start, 3) != START:
+        raise Broken(f"no JPEG at {start}")
+    add_inside(blocks, read(Window(stream, start, length), whole), part, f"JPEG at {start}")
+
+
+def add_inside(blocks: Blocks, inside: Blocks, part: str, place: str) -> None:
+    """Adds the blocks and the unread parts of a picture at a place. Without the name of a part it is the picture itself. Raises
+    `TooMuch`."""
+    of = f" of {part}" if part else ""
+    for block in inside.blocks:
+        blocks.check()
+        blocks.counts[block.name + of] = 1
+        blocks.blocks.append(block._replace(name=block.name + of, where=f"{block.where} of the {place}"))
+    for unread in inside.not_read:
+        blocks.name(NotRead(unread.what + of, unread.digest))

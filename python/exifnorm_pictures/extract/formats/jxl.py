@@ -26,7 +26,7 @@ def read(stream: Stream, whole: bool = False) -> Blocks:
     blocks = Blocks(type="JXL", budget=budget_of(stream))
     if read_at(stream, 0, len(BARE)) == BARE:
         return blocks
-    piece: Box | None = None  # the last one
+    piece = None  # the last one
     for box in boxes_of_file(blocks, stream, lambda kinds: bool(kinds & {b"jxlc", b"jxlp"})):
         piece = box if box.kind == b"jxlp" else piece
         if box.kind == b"ftyp":

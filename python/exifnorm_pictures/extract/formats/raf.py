@@ -10,8 +10,8 @@ from __future__ import annotations
 from ...model.budgets import budget_of
 from ...model.found import EXIF, Blocks, Broken, NotRead
 from ...model.tiff_types import HEADS
+from .jpeg import add_jpeg
 from .streams import Stream, Window, leave_rest, leave_whole, read_at, size_of
-from .embedded import add_jpeg
 from .tiff_directories import Layout, Table, is_pointer, Directories
 
 START = b"FUJIFILMCCD-RAW "

@@ -15,7 +15,6 @@ from typing import Callable, Iterable, Iterator, Protocol, Sequence
 from exifnorm._named import NamedTuple
 
 from ...files import opening
-from ...files.opening import is_hollow
 from ...model.budgets import BYTES_READ, HOLES, Budget, budget_of
 from ...model.found import Blocks, Broken, NotRead
 from ...model.texts import grouped, in_words
@@ -188,7 +187,7 @@ def digest_of_file(path: bytes, most: int) -> str:
     """SHA-256 of a whole file; empty if it has more bytes than `most`, or more holes than `HOLES`."""
     with opening.reading(path) as file:
         size = os.fstat(file.fileno()).st_size
-        return digest_of(file, 0, size) if size <= most and not is_hollow(file.fileno(), size, HOLES) else ""
+        return digest_of(file, 0, size) if size <= most and not opening.is_hollow(file.fileno(), size, HOLES) else ""
 
 
 def digest_of_rest(stream: Stream, start: int, end: int) -> str | None:
@@ -207,7 +206,7 @@ def digest_of_rest(stream: Stream, start: int, end: int) -> str | None:
     return None if blank else digest.hexdigest()
 
 
-def digest_of_parts(stream: Stream, parts: Iterable[tuple[int, int]]) -> str:
+def digest_of_parts(stream: Stream, parts: Iterable[Range]) -> str:
     """SHA-256 of some parts of a file, joined, which may share bytes; empty if they are more than may be read. Raises `TooMuch`."""
     budget, digest, length = budget_of(stream), hashlib.sha256(), 0
     for start, end in parts:
@@ -306,7 +305,7 @@ def _by_bounds(every: list[Part], size: int) -> Iterator[tuple[int, int, int]]:
     that has it."""
     waiting = deque(sorted((it.start, number, min(it.end, size)) for number, it in enumerate(every)))
     bounds = sorted({bound for start, _, end in waiting for bound in (start, end)})
-    open_: list[tuple[int, int]] = []  # the claims to the bytes at a bound, the first one in front
+    open_: list[Range] = []  # the claims to the bytes at a bound, the first one in front
     for at, end in zip(bounds, bounds[1:]):
         while waiting and waiting[0][0] == at:
             heappush(open_, waiting.popleft()[1:])

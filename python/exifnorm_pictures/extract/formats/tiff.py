@@ -20,7 +20,7 @@ from ...model.tiff_types import HEADS, IFD, LONG
 from ..structure import counted, placed
 from . import photoshop
 from .streams import METADATA, PICTURE, PROFILE, REST as THE_REST, STRUCTURE, Part, Stream, Window, leave_rest, leave_whole, pieces, read_at
-from .embedded import add_jpeg
+from .jpeg import add_jpeg
 from .tiff_directories import (
     BIG as BIG_TIFF,
     IN_ENTRY,
@@ -99,7 +99,7 @@ class Private:
         """A value of bytes that is a file by itself: a JPEG, or one that is compared by its bytes.
         Returns whether there is one."""
         place = self.directories.place_of(entry) if entry.type in _BYTES else None
-        if place is None:
+        if not place:
             return False
         what, stream = _FILES[entry.tag], self.directories.stream
         if entry.tag in _JPEGS:
@@ -138,7 +138,7 @@ class Private:
     def _value(self, entry: Entry) -> bytes:
         """The bytes of a value, and those of an entry that has a type that isn't known. Raises `Broken`."""
         place = self.directories.place_of(entry)
-        if entry.size > IN_ENTRY and place is None:
+        if entry.size > IN_ENTRY and not place:
             raise Broken(f"the value of tag {entry.tag:04x} isn't in the file")
         if place:
             self._reached.add(place[1], place[0])
@@ -316,7 +316,7 @@ class Reader:
     def _pixels_reach(self, directory: Directory) -> None:
         by_tag = {entry.tag: entry for entry in directory.entries}
         for offsets, lengths in ((by_tag[tag], by_tag.get(other)) for tag, other in _PAIRS if tag in by_tag):
-            if lengths is None or not offsets.elements == lengths.elements <= STRIPS:
+            if not lengths or not offsets.elements == lengths.elements <= STRIPS:
                 self._reached.end = None  # old files have no lengths of strips
                 continue
             both = zip(self.directories.numbers(offsets), self.directories.numbers(lengths))

@@ -16,7 +16,7 @@ from exifnorm import LIMIT
 from ...model.budgets import DIRECTORIES, ENTRIES, VALUE_BYTES, budget_of
 from ...model.found import Broken
 from ...model.tiff_types import BIG_TIFF, IFD, IFD8, LONG, LONG8, SHORT, SLONG, SLONG8, TIFF, Type
-from .streams import Stream, read_at, size_of
+from .streams import Range, Stream, read_at, size_of
 
 # The entries of a directory of TIFF and of BigTIFF, whose offsets and counts have eight bytes (TIFF 6.0; LibTIFF, "BigTIFF Design").
 #
@@ -24,7 +24,7 @@ from .streams import Stream, read_at, size_of
 # where the number fits. So a BigTIFF and a TIFF with equal fields have equal blocks.
 
 SUB_IFDS = 0x014A
-PIXELS: dict[int, str] = {  # of offsets and lengths
+PIXELS = {  # of offsets and lengths
     0x0111: "StripOffsets",
     0x0117: "StripByteCounts",
     0x0120: "FreeOffsets",
@@ -118,8 +118,8 @@ class Reached:
     """The parts of a file that its directories point to."""
 
     def __init__(self, header: int) -> None:
-        self.parts: list[tuple[int, int]] = [(0, header)]
-        self.pixels: list[tuple[int, int]] = []  # those of them with strips, tiles and JPEGs
+        self.parts = [(0, header)]
+        self.pixels: list[Range] = []  # those of them with strips, tiles and JPEGs
         self.end: int | None = header  # after all of them; None if it is unknown
 
     def add(self, end: int, start: int | None = None) -> None:
@@ -142,12 +142,12 @@ class Directories:
             raise Broken("its offsets have another size")
         self.first = self.number(head[-variant.offset :])
         self._row = struct.Struct(self.order + variant.row)
-        self._starts: list[int] = [0]  # of the header and of the directories that were read
+        self._starts = [0]  # of the header and of the directories that were read
         self._ends: dict[int, int] = {0: variant.header}
         self.budget = budget_of(stream)
-        self._values: list[tuple[int, int]] = []
+        self._values: list[Range] = []
         self._in_entries: dict[int, int] = {}  # where values begin and end that are in an entry here, and not in one of a block
-        self._shared: dict[tuple[int, int], bytes] = {}
+        self._shared: dict[Range, bytes] = {}
 
     def number(self, data: bytes) -> int:
         """A number in the file's byte order."""
@@ -195,7 +195,7 @@ class Directories:
             entries.append(entry)
         return entries
 
-    def unused(self, leading: Container[int]) -> Iterator[tuple[int, int]]:
+    def unused(self, leading: Container[int]) -> Iterator[Range]:
         """The bytes of the directories that were read that are of no field: the offset of the next
         directory, the entries of tags that lead elsewhere, and what a short value leaves of the
         last field of its entry."""
@@ -208,7 +208,7 @@ class Directories:
                 size = min(self.variant.sizes.get(kind, width) * elements, width)
                 yield end - (length if tag in leading else width - size), end
 
-    def place_of(self, entry: Entry) -> tuple[int, int] | None:
+    def place_of(self, entry: Entry) -> Range | None:
         """The range of a value; None if it is in its entry, or the file doesn't contain all of it."""
         if entry.size <= IN_ENTRY:
             return None
@@ -229,7 +229,7 @@ class Directories:
     def shared(self, entry: Entry) -> bytes:
         """The same, of an entry whose value is a block by itself: pages that share it have it once in memory."""
         place = self.place_of(entry)
-        if place is None:
+        if not place:
             return self.value(entry)
         if place not in self._shared:
             self._shared[place] = self.value(entry)
@@ -355,13 +355,13 @@ class Layout:
         return self._offsets[number] + place - self._parts[number][0]
 
 
-def _joined(places: list[tuple[int, int]]) -> list[tuple[int, int]]:
+def _joined(places: list[Range]) -> list[Range]:
     """The parts of a file that some ranges cover, those that share bytes being one part.
 
     >>> _joined([(20, 30), (8, 12), (25, 40), (12, 20)])
     [(8, 12), (12, 20), (20, 40)]
     """
-    joined: list[tuple[int, int]] = []
+    joined: list[Range] = []
     for start, end in sorted(places):
         if joined and start < joined[-1][1]:
             joined[-1] = (joined[-1][0], max(end, joined[-1][1]))

@@ -37,7 +37,8 @@ _SIGNS = (  # regular expressions, which are compiled at the first trailer
 _LONGEST = 64
 
 Block = tuple[str, bytes]  # its kind, and its bytes
-_Read = Callable[[Stream, int], tuple[int, list[Block]]]  # of the trailer that ends at an offset: where it begins, and its blocks
+_Found = tuple[int, list[Block]]  # where a trailer begins, and its blocks
+_Read = Callable[[Stream, int], _Found]  # of the trailer that ends at an offset
 
 
 def known_trailer(stream: Stream, end: int) -> Trailer | None:
@@ -95,9 +96,9 @@ def _all(stream: Stream, start: int, end: int) -> list[Block]:
     while end > start:
         budget_of(stream).spend(RESOURCES)
         trailer = known_trailer(stream, end)
-        if trailer is None and end < last and budget_of(stream).may_digest(end - start) and is_blank(stream, start, end):
+        if not trailer and end < last and budget_of(stream).may_digest(end - start) and is_blank(stream, start, end):
             break
-        if trailer is None or trailer.name not in _READERS:
+        if not trailer or trailer.name not in _READERS:
             raise Broken(f"no trailer that is read here ends at {end}")
         begins, blocks = _READERS[trailer.name](stream, end)
         if begins < start:
@@ -115,14 +116,14 @@ def _octets(stream: Stream, start: int, end: int) -> bytes:
     return read_at(stream, start, end - start)
 
 
-def _photo_mechanic(stream: Stream, end: int) -> tuple[int, list[Block]]:
+def _photo_mechanic(stream: Stream, end: int) -> _Found:
     """DataSets, their length, and the mark."""
     (length,) = struct.unpack(">I", _octets(stream, end - 12, end - 8))
     start = end - 12 - length
     return start, [(IPTC, _octets(stream, start, end - 12))]
 
 
-def _foto_station(stream: Stream, end: int) -> tuple[int, list[Block]]:
+def _foto_station(stream: Stream, end: int) -> _Found:
     """One of several records: bytes, the number of their kind, the length of the record, and the mark."""
     number, length = struct.unpack(">HI", _octets(stream, end - 10, end - 4))
     start = end - length
@@ -131,7 +132,7 @@ def _foto_station(stream: Stream, end: int) -> tuple[int, list[Block]]:
     return start, [(IPTC, _octets(stream, start, end - 10))] if number == 1 else []
 
 
-def _afcp(stream: Stream, end: int) -> tuple[int, list[Block]]:
+def _afcp(stream: Stream, end: int) -> _Found:
     """A directory of parts with their offsets in the file, these parts, and the offset of the directory."""
     mark = _octets(stream, end - 12, end - 8)
     order = ">" if mark[3:] == b"!" else "<"
@@ -152,7 +153,7 @@ _CANON = b"CANON OPTIONAL DATA\0"
 _CANON_XMP = 0xFFFF00F6
 
 
-def _canon(stream: Stream, end: int) -> tuple[int, list[Block]]:
+def _canon(stream: Stream, end: int) -> _Found:
     """A header, parts that begin with the number of their kind and their length, and a footer."""
     foot = end - _FOOT
     (length,) = struct.unpack(">I", _octets(stream, foot + len(_CANON), foot + len(_CANON) + 4))
@@ -172,7 +173,7 @@ def _canon(stream: Stream, end: int) -> tuple[int, list[Block]]:
     return start, read
 
 
-def _samsung(stream: Stream, end: int) -> tuple[int, list[Block]]:
+def _samsung(stream: Stream, end: int) -> _Found:
     """Sounds, depths and the like, which have no blocks; a directory of them, which says how many bytes before it they begin; and marks."""
     foot = end - (2 if read_at(stream, end - 2, 2) == b"BS" else 0)
     while True:
@@ -192,7 +193,7 @@ def _samsung(stream: Stream, end: int) -> tuple[int, list[Block]]:
     return start - before, []
 
 
-_READERS: dict[str, _Read] = {
+_READERS = {
     "AFCP": _afcp,
     "FotoStation": _foto_station,
     "PhotoMechanic": _photo_mechanic,
