@@ -1,7 +1,8 @@
 """Small mistakes in the statements of Python sources: an operator, a constant, a name, a condition or a statement is another one or isn't there.
 
 What changes nothing by rule is left out: the order of a tuple that is only asked for its members, annotations, names of type variables, how many
-results a function keeps, whether a class forbids changes, and defaults that every call gives. What changes no answer has a reason beside it.
+results a function keeps, whether a class forbids changes, defaults that every call gives, and None in place of False. What changes no answer has a
+reason beside it.
 """
 
 from __future__ import annotations
@@ -211,7 +212,7 @@ def left_out(node: ast.stmt) -> Iterator[Tuple[ast.AST, str]]:
         return  # an alias, which only annotations have
     elif isinstance(node, (ast.Expr, ast.Assign, ast.AugAssign, ast.Raise, ast.Delete)):
         yield node, "pass"
-    elif isinstance(node, ast.Return) and node.value and ast.unparse(node.value) != "None":
+    elif isinstance(node, ast.Return) and node.value and ast.unparse(node.value) not in ("None", "False"):
         yield node, "return None"
 
 

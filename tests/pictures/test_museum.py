@@ -271,6 +271,7 @@ CALLS = {
         list full --where 'creatr = x'
         list full --where 'caption like "*zeil"'
         list few --where 'date created < today and not date created = today'
+        list few --where 'date created has 2025-03'
         list plain --where 'without title and not without creator'
         list plain --columns Sharpnes
         list full --xlsx list.xlsx
