@@ -337,6 +337,7 @@ CALLS = {
         show archive/texts/*.jpg
         show archive/contradictions/place.jpg archive/sidecars/raw.nef --exact
         show archive/work/pages.tif archive/formats/heic.heic --csv --limit 50 --whole
+        show archive/states/cut-in-its-head.jpg --csv
         show archive/work/retitled.jpg archive/texts/structures.jpg --json --debug
         show --files-from some
         show --files-from some0 -0 --csv
