@@ -39,6 +39,7 @@ pytestmark = pytest.mark.xdist_group("web")
 MAKERS = (never.parts, never.reached, never.pointers, never.segments, never.texts, never.damages, big.pairs)
 OF_RAW = (raw.of_damaged_entries, raw.everywhere, raw.of_dng, raw.of_sony, raw.of_panasonic, raw.of_fujifilm)
 ODD, DATED, DAMAGED, HOSTILE, MADE = 300, 600, 700, 120, 45
+SEEN = ("states/", "rare/", "contradictions/", "notes/", "refused/")  # pictures that the worker is asked for
 NO_METADATA = 9  # beside the statuses of a pair
 # how files of formats begin that aren't read, and the name of each
 UNREAD = {
@@ -61,6 +62,16 @@ def answers(module, session_folder):
     folder.mkdir()
 
     return lambda *lists: answered(lists, folder, module, "pictures.mjs")
+
+
+@pytest.fixture(scope="module")
+def worker(module):
+    """The folder of the module, with the scripts of the page's worker."""
+    for name in ("edits.js", "worker.js"):
+        text = (TOP / "page" / name).read_text(encoding="utf-8")
+        (module / name).write_text(text.replace("../javascript/", "./"), encoding="utf-8")
+    shutil.copyfile(HERE / "worker.mjs", module / "worker.mjs")
+    return module
 
 
 def answered(lists, folder, module, *program):
@@ -253,6 +264,20 @@ def test_fields_are_those_of_exifnorm_pictures(answers, checks):
     checks.check(f"many are compared: {equal} of {len(some)}", 3 * equal > len(some))
 
 
+def test_what_is_said_of_the_museum(answers, worker, golden, folder):
+    """Of each picture what `read` says beside fields and captions, and how it compares with that of the second night, or with the next one; and
+    what the page's worker says of both."""
+    first, second = first_night(), second_night()
+    names = [name for name, it in first.items() if isinstance(it, bytes) and it]
+    nights = [(first[it], second.get(it, first[it]), first[other]) for it, other in zip(names, names[1:])]
+    pairs = [(one, other if other != one else following) for one, other, following in nights]
+    said = [{it: one[it] for it in ("format", "position", "refusals", "notRead")} for one in answers(*([first[it]] for it in names))]
+    said += [both["answer"] for both in answers(*pairs)]
+    golden("answers.txt", "".join(f"{ascii(name)} {json.dumps(it)}\n" for name, it in zip([*names, *names], said)))
+    asked = [it for name, pair in zip(names, pairs) if name.startswith(SEEN) for it in ([pair[0]], pair)]
+    golden("worker.txt", "".join(f"{json.dumps(it)}\n" for it in answered(asked, folder, worker, "worker.mjs")))
+
+
 def test_formats_that_are_not_read_are_named(answers):
     found = answers(*([it] for it in UNREAD.values()))
     assert [it["named"] for it in found] == [[f"the format {name} isn't read"] for name in UNREAD]
@@ -327,13 +352,10 @@ def of_blocks():
         yield tuple(picture(exif(block), iptc(record)) for block, record in (first, second))
 
 
-def test_edits_are_those_of_exifnorm_pictures(module, folder, checks):
+def test_edits_are_those_of_exifnorm_pictures(worker, folder, checks):
     """With the same fields that differ, of made blocks."""
-    (module / "edits.js").write_text(
-        (TOP / "page" / "edits.js").read_text(encoding="utf-8").replace("../javascript/", "./"), encoding="utf-8"
-    )
     made_blocks, pairs = [*of_blocks()], edited_pairs()
-    found = answered(made_blocks + pairs, folder, module, "--input-type=module", "-e", EDITS)
+    found = answered(made_blocks + pairs, folder, worker, "--input-type=module", "-e", EDITS)
     for number, (pair, (is_different, edits, fields)) in enumerate(zip(made_blocks + pairs, found)):
         if is_different and number < MADE:
             differences = exifnorm.compare(*map(exifnorm.read_bytes, pair)).differences
