@@ -140,8 +140,8 @@ class Stream {
         this.#out[this.#size++] = symbol;
         continue;
       }
-      const length = LENGTHS[symbol - 257] + this.bits(LENGTH_BITS[symbol - 257] ?? 0), far = this.symbol(distances);
-      this.#copy(length, DISTANCES[far] + this.bits(DISTANCE_BITS[far] ?? 0));
+      const length = LENGTHS[symbol - 257] + this.bits(LENGTH_BITS[symbol - 257]), far = this.symbol(distances);
+      this.#copy(length, DISTANCES[far] + this.bits(DISTANCE_BITS[far]));
     }
   }
 

@@ -8,16 +8,17 @@ import zlib
 from collections import Counter
 from datetime import date, time
 from fractions import Fraction
-from itertools import permutations
+from itertools import permutations, product
 from pathlib import Path
 from random import Random
 
+import guard
 import pytest
 from changed import changed
 from commands import TOP, run
 from packets import PACKET
 from small_packets import small_packets
-from made_museum import first_night, second_night
+from made_museum import first_night, put, second_night
 from pairs import DIFFERENT, SAME, UNDECIDED
 
 import exifnorm
@@ -26,7 +27,9 @@ from exifnorm_pictures.comparison.changed.edits import PROGRAMS, edits_of
 import made_files as made
 import odd_dates
 import odd_heads
+from made_blocks import ASCII
 from test_jpeg_same import exif, iptc, picture
+from test_own_texts import OF_CAMERAS, OWN, PEOPLE
 from test_page import xmp_pictures
 from test_plain_words import exif_block, record_block
 import test_bigtiff as big
@@ -38,20 +41,9 @@ HERE = Path(__file__).resolve().parent
 pytestmark = pytest.mark.xdist_group("web")
 MAKERS = (never.parts, never.reached, never.pointers, never.segments, never.texts, never.damages, big.pairs)
 OF_RAW = (raw.of_damaged_entries, raw.everywhere, raw.of_dng, raw.of_sony, raw.of_panasonic, raw.of_fujifilm)
-ODD, DATED, DAMAGED, HOSTILE, MADE = 300, 600, 700, 120, 45
+ODD, DATED, DAMAGED, HOSTILE, MADE = 300, 600, 200, 120, 45
 SEEN = ("states/", "rare/", "contradictions/", "notes/", "refused/")  # pictures that the worker is asked for
 NO_METADATA = 9  # beside the statuses of a pair
-# how files of formats begin that aren't read, and the name of each
-UNREAD = {
-    "BigTIFF": b"II+\0\x08\0\0\0\x10\0\0\0\0\0\0\0" + bytes(16),
-    "GIF": b"GIF89a" + bytes(20),
-    "Photoshop": b"8BPS\0\1" + bytes(30),
-    "CR2": b"II*\0\x10\0\0\0CR\2\0" + bytes(20),
-    "CR3": b"\0\0\0\x18ftypcrx " + bytes(20),
-    "JPEG XL": b"\xff\x0a" + bytes(20),
-    "JPEG 2000": b"\0\0\0\x0cjP  \r\n\x87\n" + bytes(20),
-    "raw": b"FUJIFILMCCD-RAW 0201" + bytes(20),
-}
 
 
 @pytest.fixture(scope="module")
@@ -150,7 +142,7 @@ def test_pairs_are_answered_as_by_exifnorm_pictures(answers, checks, make):
     checks.check(f"each is there: {counts}", min(counts[it] for it in ("same", "different", "not wholly read")) >= 2)
 
 
-OF_A_LONG_FILE = """const { compare } = require("./exifnorm.cjs"), head = Buffer.from(process.argv[1], "hex"), end = Buffer.from("a1b2c3d4", "hex"), size = 300e6;
+OF_A_LONG_FILE = """const { compare } = require("./exifnorm.cjs"), head = Buffer.from(process.argv[1], "hex"), end = Buffer.from("a1b2c3d4", "hex"), size = 2 ** 26 + 4096;
 let asked = 0;
 const part = (start, stop) => {
   const bytes = new Uint8Array(stop - start);
@@ -175,19 +167,6 @@ def blocks_of(octets, name):
     except (exifnorm.NoPicture, exifnorm.NotReadable):
         return []
     return sorted([it.kind, hashlib.sha256(it.data).hexdigest()] for it in found)
-
-
-def test_blocks_are_those_of_exifnorm_pictures(answers, checks):
-    """Of made files of each format and state, and of damaged ones: where blocks differ, the module names why. Nothing is thrown."""
-    chance, made = Random(11), {name: it for name, it in first_night().items() if isinstance(it, bytes) and it}
-    some = [(name, it) for name, it in made.items() if name.startswith(("formats/", "states/", "rare/", "notes/", "sidecars/"))]
-    damaged = [(name, changed(it, chance)) for name, it in (chance.choice(some) for _ in range(DAMAGED))]
-    equal = 0
-    for (name, octets), found in zip([*made.items(), *damaged], answers(*([it] for _, it in [*made.items(), *damaged]))):
-        is_equal = sorted(found["blocks"]) == blocks_of(octets, name)
-        checks.check(f"{name} {hashlib.sha256(octets).hexdigest()[:8]}: {found}", is_equal or bool(found["named"]))
-        equal += is_equal
-    checks.check(f"most are equal: {equal}", 2 * equal > len(made) + DAMAGED)
 
 
 # ---- fields, captions and refusals
@@ -227,22 +206,36 @@ def captions_of(picture):
     return {label: texts for label, texts in found.items() if texts}
 
 
+def own_text(text, camera, has_second):
+    """A picture of a camera, with a caption in Exif and in IPTC. Some have a block without a camera before it, and a preview of another one."""
+    make, model = ((tag, ASCII, it.encode() + b"\0") for tag, it in zip((0x010F, 0x0110), camera))
+    block = made.tiff([(0x010E, ASCII, text.encode() + b"\0"), make, model], [(0x0110, ASCII, b"preview\0")] if has_second else [])
+    other = [made.app1(made.small_tiff((0x0131, ASCII, b"GIMP\0")))] * has_second
+    return made.jpeg(*other, made.app1(block), made.with_record(made.data_set(120, text.encode())))
+
+
 def made_pictures():
-    """The samples, those of a museum on two nights, odd dates, and odd heads."""
+    """The samples, those of a museum on two nights, odd dates, texts of cameras, odd heads, and damaged files."""
     chance = Random(13)
     some = [(it.name, it.read_bytes()) for it in TOP.glob("samples/*/*/*") if it.is_file()]
     for night in (first_night(), second_night()):
         some += [(name, it) for name, it in night.items() if isinstance(it, bytes) and it]
     some += [("dated", odd_dates.dated(chance)) for _ in range(DATED)]
-    return some + [("odd.jpg", odd_heads.pair(chance)[0]) for _ in range(ODD)]
+    texts = [*product(OWN + PEOPLE, [("Apple", "iPhone 12"), ("", "C-1998")]), *((text, [make, model]) for text, make, model in OF_CAMERAS)]
+    some += [("own.jpg", own_text(*it, chance.random() < 0.5)) for it in texts]
+    some += [("odd.jpg", odd_heads.pair(chance)[0]) for _ in range(ODD)]
+    of_formats = [it for it in some if it[0].startswith(("formats/", "states/", "rare/", "notes/", "sidecars/"))]
+    return some + [(f"damaged/{name}", changed(it, chance)) for name, it in (chance.choice(of_formats) for _ in range(DAMAGED))]
 
 
 def test_fields_are_those_of_exifnorm_pictures(answers, checks):
-    """Names, values and texts of fields, captions, times and refusals, of all pictures of which both
-    read the same blocks; of XMP, if all is read."""
+    """Names, values and texts of fields, captions, times and refusals, of all pictures of which both read the same blocks; of XMP, if all is
+    read. Where blocks differ, the module names why."""
     some, equal = sorted(made_pictures()), 0
     for (name, octets), found in zip(some, answers(*([octets] for _, octets in some))):
-        if sorted(found["blocks"]) != blocks_of(octets, name) or not found["blocks"]:
+        is_equal = sorted(found["blocks"]) == blocks_of(octets, name)
+        checks.check(f"{name}: {found['named']}", is_equal or bool(found["named"]))
+        if not is_equal or not found["blocks"] or name.startswith("damaged/"):
             continue
         name = f"{name} {hashlib.sha256(octets).hexdigest()[:8]}"
         picture = exifnorm.read_bytes(octets, name=name.split(" ")[0])
@@ -278,9 +271,37 @@ def test_what_is_said_of_the_museum(answers, worker, golden, folder):
     golden("worker.txt", "".join(f"{json.dumps(it)}\n" for it in answered(asked, folder, worker, "worker.mjs")))
 
 
-def test_formats_that_are_not_read_are_named(answers):
-    found = answers(*([it] for it in UNREAD.values()))
-    assert [it["named"] for it in found] == [[f"the format {name} isn't read"] for name in UNREAD]
+COMMANDS = """
+0 contradictions/creator.jpg
+0 texts/controls.jpg
+2 refused/Doubled.jpg
+2 formats/psd.psd
+0 states/bare.jpg
+0 states/trailer.jpg
+0 copies/first.jpg copies/again.jpg
+1 contradictions/creator.jpg contradictions/place.jpg
+1 texts/controls.jpg texts/written.jpg
+1 copies/first.jpg contradictions/south.jpg
+2 refused/Doubled.jpg refused/NoMarker.jpg
+2 states/trailer.jpg formats/gif.gif
+2 states/bare.jpg states/bare.jpg
+2 states/none.jpg
+2 states/bare.jpg states
+0 --help
+0 -h
+0 --version
+2
+2 copies/first.jpg copies/again.jpg copies/first.jpg
+""".strip().splitlines()
+
+
+def test_the_command(module, folder, golden):
+    """What `npx exifnorm` prints, and its status."""
+    put(str(folder), {name: it for name, it in first_night().items() if name in " ".join(COMMANDS)})
+    said = []
+    for status, *words in map(str.split, COMMANDS):
+        said += [f"$ exifnorm {' '.join(words)} # {status}", run("node", module / "cli.js", *words, folder=folder, status=int(status))]
+    golden("cli.txt", "\n".join(said).replace(guard.MARK, ""))
 
 
 # ---- texts and further pictures
