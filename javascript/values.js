@@ -91,7 +91,9 @@ function isLong(field, octets) {
   if (field.where === "thumb" && field.type === "octets") return true;
   if (octets.length <= LONGEST_BYTES) return false;
   if (isText(field)) return octets.length > LONGEST_TEXT;
-  return octets.length > 4 * LONGEST_OTHER_TEXT || [...plainText(octets) ?? " ".repeat(999)].length > LONGEST_OTHER_TEXT;
+  if (octets.length > 4 * LONGEST_OTHER_TEXT) return true;
+  const text = plainText(octets);
+  return text === null || [...text].length > LONGEST_OTHER_TEXT;
 }
 
 /** The text of a field whose bytes can be printed as one; null if they can't. */

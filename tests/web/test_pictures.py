@@ -257,18 +257,25 @@ def test_fields_are_those_of_exifnorm_pictures(answers, checks):
     checks.check(f"many are compared: {equal} of {len(some)}", 3 * equal > len(some))
 
 
-def test_what_is_said_of_the_museum(answers, worker, golden, folder):
+def test_what_is_said_of_the_museum(answers, worker, golden, folder, checks):
     """Of each picture what `read` says beside fields and captions, and how it compares with that of the second night, or with the next one; and
-    what the page's worker says of both."""
+    what the page's worker says of both. A picture that the museum has got since counts from the next --update on."""
     first, second = first_night(), second_night()
     names = [name for name, it in first.items() if isinstance(it, bytes) and it]
     nights = [(first[it], second.get(it, first[it]), first[other]) for it, other in zip(names, names[1:])]
-    pairs = [(one, other if other != one else following) for one, other, following in nights]
-    said = [{it: one[it] for it in ("format", "position", "refusals", "notRead")} for one in answers(*([first[it]] for it in names))]
-    said += [both["answer"] for both in answers(*pairs)]
-    golden("answers.txt", "".join(f"{ascii(name)} {json.dumps(it)}\n" for name, it in zip([*names, *names], said)))
-    asked = [it for name, pair in zip(names, pairs) if name.startswith(SEEN) for it in ([pair[0]], pair)]
-    golden("worker.txt", "".join(f"{json.dumps(it)}\n" for it in answered(asked, folder, worker, "worker.mjs")))
+    asked = [(first[it],) for it in names] + [(one, other if other != one else following) for one, other, following in nights]
+    of_worker = [it for name, it in zip([*names, *names], asked) if name.startswith(SEEN)]
+    beside = ("format", "position", "refusals", "notRead")
+    said = [it.get("answer") or {word: it[word] for word in beside} for it in answers(*asked)]
+    for file, lists, rows in (("answers", asked, said), ("worker", of_worker, answered(of_worker, folder, worker, "worker.mjs"))):
+        keys = [hashlib.sha256(b"".join(it)).hexdigest()[:16] for it in lists]
+        lines = {key: json.dumps(row) for key, row in zip(keys, rows)}
+        if golden.is_update:
+            golden(f"{file}.txt", "".join(f"{key} {line}\n" for key, line in lines.items()))
+        due = dict(it.split(" ", 1) for it in (golden.folder / f"{file}.txt").read_text(encoding="utf-8").splitlines())
+        for key in lines.keys() & due.keys():
+            checks.equal(f"{file} {key}", lines[key], due[key])
+        checks.check(f"most are there: {file}", 4 * len(lines.keys() & due.keys()) > 3 * len(due))
 
 
 COMMANDS = """

@@ -65,6 +65,9 @@ OCTETS = [
     b"A" * 1700,
     b"0220",
     b"\0\2",
+    "\ufeffBowl\0".encode("utf-16-le"),
+    b"B\0\0\xd8o\0",
+    b"B\0\0\xdc",
 ]
 COMMENTS = [
     b"ASCII\0\0\0Vase  ",
