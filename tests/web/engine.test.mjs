@@ -91,6 +91,7 @@ test("what is no form has no properties", () => {
   const fails = (bytes) => assert.throws(() => exifnorm.xmpProperties(bytes), SyntaxError);
   for (let size = 0; size < form.length; size++) fails(form.subarray(0, size));
   for (const other of [packet("<d:a>1</d:a>"), encoded(`${text} `), Uint8Array.from(form, (octet) => octet | 0x80)]) fails(other);
+  for (const other of [encoded(`\ufeff${text}`), form.map((octet, i) => i === text.indexOf(">1<") + 1 ? 0xff : octet)]) fails(other);
   for (const other of ["</p:q>", "", " </p:a>x"]) fails(encoded(text.replace("</p:a>", other)));
   const nested = '<p:a xmlns:p="http://d/" rdf:parseType="Resource">'.repeat(100_000) + "</p:a>".repeat(100_000);
   fails(encoded(text.replace(end, nested + end)));

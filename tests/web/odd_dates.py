@@ -1,6 +1,7 @@
 """Pictures with dates in Exif, IPTC and XMP, of which some are none: no calendar or clock has them, or they have another form."""
 
 import hashlib
+import struct
 from random import Random
 
 from made_blocks import ASCII, LONG, UNDEFINED
@@ -44,7 +45,8 @@ def directories(chance: Random) -> list:
     fields = [(tag, ASCII, text.encode() + b"\0") for tag, text in zip((0x0132, 0x9003, 0x9004, 0x9011, 0x9291), texts)]
     inner = [it for it in fields[1:] if it[2] != b"\0" and chance.random() < 0.7]
     outer = [it for it in fields if it not in inner or chance.random() < 0.1]
-    return [it for it in outer if it[0] == 0x0132 or chance.random() < 0.2] + ([(0x8769, LONG, inner)] if inner else [])
+    some = [it for it in outer if chance.random() < (0.7 if it[0] == 0x0132 else 0.2)]
+    return some + [(0x8769, LONG, inner)] * (chance.random() < 0.8 and bool(inner))
 
 
 def dated(chance: Random) -> bytes:
@@ -54,8 +56,15 @@ def dated(chance: Random) -> bytes:
     record = b"".join(data_set(number, text.encode()) for number, text in days + clocks if chance.random() < 0.5)
     digest = chance.choice((b"", hashlib.md5(record, usedforsecurity=False).digest(), b"that of another!"))
     resources = [resource(0x0404, record)] + [resource(0x0425, digest)] * bool(digest)
+    fields, properties = directories(chance), packet(chance)
     if chance.random() < 0.7:
-        parts = [app1(small_tiff(*directories(chance))), app13(*resources), app1_xmp(packet(chance))]
+        blocks = [small_tiff(*fields)] if fields else []
+        parts = [*map(app1, blocks), app13(*resources), app1_xmp(properties)]
         return jpeg(*(it for it in parts if chance.random() < 0.8))
-    blocks = [(0x83BB, record), (0x8649, b"".join(resources[chance.randrange(2) :])), (0x02BC, packet(chance))]
-    return tiff(directories(chance) + [(tag, UNDEFINED, it) for tag, it in blocks if it and chance.random() < 0.8])
+    is_turned = len(record) % 4 == 0  # some programs write a record as numbers of four bytes, the last byte of each first
+    written_so = b"".join(record[at : at + 4][::-1] for at in range(0, len(record), 4)) if is_turned else record
+    some = [(0x83BB, written_so), (0x8649, b"".join(resources[chance.randrange(2) :]))]
+    kept = [(tag, UNDEFINED, it) for tag, it in some if it and chance.random() < 0.8]
+    made = tiff([*fields, *kept, (0x02BC, UNDEFINED, properties)])
+    entries = [struct.pack(">HHI", 0x83BB, *it) for it in ((UNDEFINED, len(record)), (LONG, len(record) // 4))]
+    return made.replace(*entries) if is_turned else made

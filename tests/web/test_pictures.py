@@ -234,7 +234,7 @@ def test_fields_are_those_of_exifnorm_pictures(answers, checks):
     some, equal = sorted(made_pictures()), 0
     for (name, octets), found in zip(some, answers(*([octets] for _, octets in some))):
         is_equal = sorted(found["blocks"]) == blocks_of(octets, name)
-        checks.check(f"{name}: {found['named']}", is_equal or bool(found["named"]))
+        checks.check(f"{name}: {found['named']}", is_equal or bool(found["named"]) and name != "dated")
         if not is_equal or not found["blocks"] or name.startswith("damaged/"):
             continue
         name = f"{name} {hashlib.sha256(octets).hexdigest()[:8]}"
