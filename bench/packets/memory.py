@@ -4,7 +4,7 @@
   bench/packets/memory.py PROGRAM [PACKET ..]
 
 PROGRAM is one such as out/exifnorm. Each PACKET is a file with a packet; without any, packets of about
-360,000 to 480,000 bytes are made. The figures don't depend on the machine.
+180,000 to 480,000 bytes are made. The figures don't depend on the machine.
 """
 
 import argparse
@@ -13,6 +13,7 @@ import subprocess
 import sys
 import tempfile
 from pathlib import Path
+from string import ascii_letters
 from typing import Dict
 
 TOP = Path(__file__).resolve().parent.parent.parent
@@ -26,10 +27,10 @@ LENGTH = 480_000
 RDF = "http://www.w3.org/1999/02/22-rdf-syntax-ns#"
 
 
-def packet(inside: str, path: str = "") -> bytes:
-    """A packet with properties whose namespace is that of the letter d."""
+def packet(inside: str, path: str = "", words: str = "") -> bytes:
+    """A packet with properties whose namespace is that of the letter d, and further attributes of its root."""
     spaces = f"xmlns:r='{RDF}' xmlns:d='http://{path}/'"
-    return f"<r:RDF {spaces}><r:Description>{inside}</r:Description></r:RDF>".encode()
+    return f"<r:RDF {spaces}{words}><r:Description>{inside}</r:Description></r:RDF>".encode()
 
 
 def numbered(form: str) -> str:
@@ -44,19 +45,23 @@ def nested(inside: str, depth: int) -> str:
     return f"<d:a>{begin * depth}<r:Bag><r:li r:parseType='Resource'>{inside}</r:li></r:Bag>{end * depth}</d:a>"
 
 
-def tree(depth: int) -> str:
-    """Eight properties, in each of which are such properties: a row is copied into the one around it."""
-    inside = f" r:parseType='Resource'>{tree(depth - 1)}</d:" if depth else ""
-    return "".join(f"<d:{name}{inside}{name}>" if inside else f"<d:{name}/>" for name in "abcdefgh")
+def tree(depth: int, count: int) -> str:
+    """So many structures in each of so many, and 52 properties in each of the innermost: a row is copied into the one around it."""
+    if depth == 0:
+        return "".join(f"<d:{name}/>" for name in ascii_letters)
+    inside = tree(depth - 1, count)
+    return "".join(f"<d:{name} r:parseType='Resource'>{inside}</d:{name}>" for name in ascii_letters[:count])
 
 
-# The name of a property in a form has its namespace
+# A text in a form has the namespace of its property twice and its language. No longer ones are read
+LONG = ("d" * 248, f" xml:lang='{'abcdefgh-' * 11}a'")
 PACKETS: Dict[str, bytes] = {
     "properties in no order": packet(numbered("<d:a{0}/>")),
     "a bag in no order": packet(f"<d:a><r:Bag>{numbered('<r:li>{0}</r:li>')}</r:Bag></d:a>"),
     "a namespace of 240 bytes": packet(numbered("<d:a{0}/>"), "d" * 240),
     "the same in 31 bags": packet(nested(numbered("<d:a{0}/>"), 31), "d" * 240),
-    "structures of eight": packet(tree(4), "d" * 240),
+    "two structures in each of two": packet(tree(9, 2), *LONG),
+    "eight structures in each of eight": packet(tree(3, 8), *LONG),
 }
 
 

@@ -10,9 +10,10 @@
 #include <stdlib.h>
 #include <string.h>
 
-/* A marker of two bytes is a part, and has the most bytes of output for each byte of its block. */
+/* A marker of two bytes is a part, and has the most bytes of output for each byte of its block, but for a packet with long names, of which only
+ * short ones are called here. */
 #define TIMES (sizeof(struct exifnorm_jpeg_part) / 2)
-#define BESIDE 1024
+#define BESIDE (1 << 21)
 
 struct block {
     unsigned char *bytes;

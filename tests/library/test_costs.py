@@ -5,6 +5,7 @@ import hashlib
 import re
 from collections import Counter, namedtuple
 from random import Random
+from string import ascii_letters
 
 import pytest
 
@@ -200,6 +201,17 @@ PACKETS = {
     "long attributes": (packet([f"<d:a d:b='{'x' * 100_000}' d:c='{'y' * 100_000}'/>"]), 4, 4),
     "structures in structures": (packet(["<d:a r:parseType='Resource'>" * 90, "<d:a>1</d:a>", "</d:a>" * 90]), 13, 13),
     "attributes": (packet(["<d:a ", *(f"d:a{it}='1' " for it in range(200)), "/>"]), 17.5, 17.5),
+    "long names and languages": (
+        bag(
+            [
+                f"<r:li r:parseType='Resource' xml:lang='{'abcdefgh-' * 11}a'>",
+                *(f"<d:{it} r:parseType='Resource'>{''.join(f'<d:{name}/>' for name in ascii_letters)}</d:{it}>" for it in ascii_letters),
+                "</r:li><r:li/>",
+            ]
+        ).replace(b"http://d/", b"http://%s/" % (b"d" * 248)),
+        162,
+        292,
+    ),
 }
 
 
