@@ -278,7 +278,7 @@ def test_index_list_and_report(archives, asked, checks, folder):
         checks.equal(f"{case}: report", f"{case}</a>" in page.partition('id="damaged"')[2].partition("</section>")[0], True)
     assert f"; {len(CASES):,} cut off or damaged\n" in texts
     assert len(in_check) > 5 and f"{len(CASES):,} cut off or damaged: " in texts and f"<b>{len(CASES)}</b> cut off or damaged" in page
-    without = re.search(r"([\d,]+) cut off without a block", texts)[1]  # in what is left
+    without = re.search(r"([\d,]+) no block in what is left", texts)[1]
     assert f"<b>{without}</b> cut off, and without a block" in page
     assert f", {len(CASES)} of them cut off or damaged" in in_list[-1] and page.count("the file ends ") >= len(CASES)
 

@@ -8,8 +8,8 @@ from typing import Iterator
 
 PACKAGE = Path(__file__).resolve().parents[2] / "python" / "exifnorm_pictures"
 STATEMENTS = 19_960  # without docstrings
-TOKENS = 239_379  # more on one line is no way to have fewer statements
-OVER_TEN, OVER_TWENTY = 55, 0  # functions with more branches
+TOKENS = 239_256  # more on one line is no way to have fewer statements
+OVER_TEN, OVER_TWENTY = 54, 0  # functions with more branches
 _LAYOUT = (tokenize.COMMENT, tokenize.NL, tokenize.NEWLINE, tokenize.INDENT, tokenize.DEDENT, tokenize.ENDMARKER)
 _FUNCTIONS = (ast.FunctionDef, ast.AsyncFunctionDef)
 _DOCUMENTED = (ast.Module, ast.ClassDef, *_FUNCTIONS)

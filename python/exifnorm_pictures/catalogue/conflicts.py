@@ -11,7 +11,7 @@ from typing import Iterator, NamedTuple, Optional, Sequence
 
 from exifnorm._words import documented
 
-from ..fields.labels import DATE, LABELS, POSITION, Caption, Label
+from ..fields.labels import DATE, LABELS, POSITION, Caption, Captions, Label
 from ..fields.places import Located, is_same_place, metres_apart
 from ..model.found import EXIF, IPTC, NAMES, STANDARDS, XMP
 from ..model.texts import Word, grouped
@@ -81,7 +81,7 @@ class _How(NamedTuple):
     worse: str = ""  # a field
 
 
-def conflicts(texts: Sequence[Caption], positions: Positions = (None, None)) -> list[Conflict]:
+def conflicts(texts: Captions, positions: Positions = (None, None)) -> list[Conflict]:
     """The labels with texts in two standards at least, and the position if Exif and XMP have one. An XMP sidecar counts beside them."""
     by_label = grouped((it.label, it) for it in texts if it.is_compared)
     several = {word: ours for word, ours in by_label.items() if len(set(map(_source, ours))) > 1}
@@ -109,7 +109,7 @@ def _of_positions(exif: Located | None, xmp: Located | None) -> Iterator[Conflic
     yield Conflict(POSITION, ConflictKind.DIFFERENT, f"{way} apart", texts)
 
 
-def _conflict(label: Label, ours: Sequence[Caption]) -> Conflict:
+def _conflict(label: Label, ours: Captions) -> Conflict:
     shown = tuple(sorted(ours, key=lambda it: STANDARDS.index(it.standard)))
     if _are_same(ours):  # as nearly all
         return Conflict(label.word, ConflictKind.ALIKE, "", shown)
@@ -120,12 +120,12 @@ def _conflict(label: Label, ours: Sequence[Caption]) -> Conflict:
     return Conflict(label.word, kind, "; ".join(details), shown, worse)
 
 
-def _are_same(ours: Sequence[Caption]) -> bool:
+def _are_same(ours: Captions) -> bool:
     """Whether nothing is to be said of some texts: all are the same, and none is empty, a camera's own or in a set that nothing declares."""
     return len({it.texts for it in ours}) == 1 and not any([it.guess or it.is_own or it.is_empty for it in ours])
 
 
-def _hows(label: Label, ours: Sequence[Caption]) -> Iterator[_How]:
+def _hows(label: Label, ours: Captions) -> Iterator[_How]:
     """How the texts of a label differ: each by itself, and each pair of two standards."""
     yield from (_How(ConflictKind.EMPTY, f"{it.field} is empty") for it in ours if it.is_empty)
     yield from (_How(ConflictKind.CAMERA, f"{it.field} has a camera's own text") for it in ours if it.is_own)
@@ -135,12 +135,12 @@ def _hows(label: Label, ours: Sequence[Caption]) -> Iterator[_How]:
             yield _pair(label, text, other)
 
 
-def _of_people(texts: Sequence[Caption]) -> list[Caption]:
+def _of_people(texts: Captions) -> list[Caption]:
     """The texts that neither are empty nor a camera's own."""
     return [it for it in texts if not it.is_empty and not it.is_own]
 
 
-def chosen(texts: Sequence[Caption], known: Sequence[Conflict], order: Sequence[str] = STANDARDS) -> Caption | None:
+def chosen(texts: Captions, known: Sequence[Conflict], order: Sequence[str] = STANDARDS) -> Caption | None:
     """The texts of a label where there is space for one field, which aren't a camera's: those that are whole, on which two standards agree, and
     the first in the order of the standards. Those of further blocks, such as of a second page, are taken where the first ones have none."""
     worse = {field for it in known for field in it.worse}
@@ -155,13 +155,13 @@ def chosen(texts: Sequence[Caption], known: Sequence[Conflict], order: Sequence[
     return next(iter(candidates), None)
 
 
-def best(texts: Sequence[Caption], known: Sequence[Conflict]) -> str:
+def best(texts: Captions, known: Sequence[Conflict]) -> str:
     """These texts in a line."""
     text = chosen(texts, known)
     return text.line if text else ""
 
 
-def own_texts(texts: Sequence[Caption]) -> list[str]:
+def own_texts(texts: Captions) -> list[str]:
     """The texts that a camera or a program writes by itself, each once."""
     return list(dict.fromkeys(it.line for it in texts if it.is_own))
 

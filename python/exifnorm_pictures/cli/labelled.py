@@ -3,12 +3,12 @@
 from __future__ import annotations
 
 import os
-from typing import TYPE_CHECKING, Iterator, Sequence
+from typing import TYPE_CHECKING, Iterator
 
 from ..catalogue.conflicts import Conflict, best, conflicts, own_texts
 from ..comparison.wording import tell_apart
 from ..extract.extraction import blocks_of_named
-from ..fields.labels import LABEL_WORDS, POSITION, Caption
+from ..fields.labels import LABEL_WORDS, POSITION, Caption, Captions
 from ..fields.listing import Shown
 from ..fields.places import Place
 from ..files import opening
@@ -152,7 +152,7 @@ def members(picture: Picture) -> Members:
 # The fields of texts
 
 
-def origins(texts: Sequence[Caption]) -> str:
+def origins(texts: Captions) -> str:
     """Where a text is: its fields, each with its block if that isn't the first one, and with a guess about its character set."""
     words = []
     for text in texts:
@@ -161,7 +161,7 @@ def origins(texts: Sequence[Caption]) -> str:
     return ", ".join(words)
 
 
-def together(texts: Sequence[Caption]) -> list[list[Caption]]:
+def together(texts: Captions) -> list[list[Caption]]:
     """Fields with equal texts together, without those that are empty."""
     by_text: dict[str, list[Caption]] = {}
     lines: dict[int, str] = {}  # pages of a TIFF may share a long list
@@ -243,7 +243,7 @@ def _has_no_text(picture: Picture) -> bool:
     return not (refused(picture) or picture.too_many) and all(one.is_empty for one in picture._labelled.texts)
 
 
-def _of_label(word: str, texts: Sequence[Caption], conflict: Conflict | None) -> Iterator[str]:
+def _of_label(word: str, texts: Captions, conflict: Conflict | None) -> Iterator[str]:
     """The texts of a label, each with its fields, and how those that are compared differ."""
     mark = f"   <- {conflict.detail or 'they differ'}" if conflict and not conflict.is_alike else ""
     every = together(texts)

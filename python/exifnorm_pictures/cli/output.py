@@ -250,7 +250,7 @@ def refused_line(block: BlockRecord) -> str:
 
 
 # "damaged" counts the files without a block. A number of all damaged files may be beside it
-_STATES = {**COUNTED, "damaged": "cut off without a block"}
+_STATES = {**COUNTED, "damaged": "no block in what is left"}
 
 
 def counted(counts: "Counter[str]", damaged: int = 0) -> str:

@@ -53,6 +53,9 @@ class FieldDifference(NamedTuple):
         return bool(pairs) and all(one.count == other.count and equal_form(one) == equal_form(other) for one, other in pairs)
 
 
+Differences = Sequence[FieldDifference]
+
+
 def exact_side(fields: Sequence[Field]) -> str | None:
     """The exact values of a field with their types; None without any.
 

@@ -15,7 +15,7 @@ from ..comparison.same.group import Keep, keeping, sentence_of
 from ..comparison.same.groups import Groups
 from ..fields.packing import BlockFields, divided, field_of, unpacked
 from ..fields.field import Field
-from ..fields.labels import Caption, names_camera, word_of
+from ..fields.labels import Captions, names_camera, word_of
 from ..fields.listing import is_rest
 from ..fields.names import exact_key, group_name
 from ..fields.places import is_of_position, position_of
@@ -505,7 +505,7 @@ class FieldRows:
         return about
 
 
-def _text_rows(texts: Sequence[Caption]) -> Iterator[Row]:
+def _text_rows(texts: Captions) -> Iterator[Row]:
     """A row for each text, several of a list."""
     for caption in texts:
         about, more = (caption.label, caption.standard, caption.field, caption.block or None), (caption.guess or None, int(caption.is_own))

@@ -247,6 +247,7 @@ class Caption(NamedTuple):
         return self.line
 
 
+Captions = Sequence[Caption]
 _EXIF = {it.exif: it.word for it in LABELS if it.exif} | {"9291": DATE, "9011": DATE, "9286": COMMENT} | WINDOWS
 _IPTC = {it.iptc: it.word for it in LABELS if it.iptc} | {"1:90": "", "2:60": DATE}
 _XMP = {it.xmp: it.word for it in LABELS if it.xmp}
@@ -330,7 +331,7 @@ def _of_label(label: Label, exif: _ByTag, record: _Record) -> Iterator[Caption]:
         yield _of_octets(label.word, NAMES[IPTC], _NAMES["iptc", label.iptc], record[label.iptc], is_utf8)
 
 
-def with_own(texts: Sequence[Caption], make: str = "", model: str = "") -> list[Caption]:
+def with_own(texts: Captions, make: str = "", model: str = "") -> list[Caption]:
     """The texts of a picture, of which captions and comments are marked that a camera with this make and model, or a program, writes by
     itself; also where another program has copied them to IPTC or XMP."""
     possible = {id(it.texts): it.line for it in texts if it.label in _CAN_BE_OWN}  # pages of a TIFF may share a long text

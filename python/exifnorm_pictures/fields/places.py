@@ -138,10 +138,10 @@ def further_places(fields: Iterable[Field]) -> tuple[list[Place], bool]:
 
 def _place_in(structure: Structure) -> list[Place | None]:
     """The position of a structure with a coordinate; None if it makes no position."""
-    halves = {name.rpartition(":")[2]: value for name, value in structure.members if name.rpartition(":")[2] in _HALVES}
-    angles = [_of_xmp(Field("xmp", it, "text", 1, (halves[it],)) if it in halves else None, signs) for it, signs in _HALVES.items()]
+    members = {name.rpartition(":")[2]: value for name, value in structure.members}
+    angles = [_of_xmp(Field("xmp", it, "text", 1, (members[it],)) if it in members else None, signs) for it, signs in _HALVES.items()]
     located_ = _located(*angles)
-    return [located_ and located_.place] if halves else []
+    return [located_ and located_.place] if _HALVES.keys() & members else []
 
 
 _HALVES = {"GPSLatitude": "NS", "GPSLongitude": "EW"}

@@ -232,9 +232,8 @@ def _cut_directory(walk: _Walk) -> _Done:
     """Leaves out entries, or a whole directory, that aren't in the block."""
     for directory in walk.directories:
         if not directory.is_whole:
-            out = bytearray(walk.block)
-            struct.pack_into(walk.order + "H", out, directory.at, len(directory.entries))
-            count = len(directory.entries)
+            out, count = bytearray(walk.block), len(directory.entries)
+            struct.pack_into(walk.order + "H", out, directory.at, count)
             what = f"the {_NAMES[directory.name]} cut from {directory.size:,} entries to the {count:,} that are there"
             end = directory.at + 2 + 12 * count
             # another table, which the further steps spoil

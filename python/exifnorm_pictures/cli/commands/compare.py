@@ -139,14 +139,14 @@ def _of_pictures(comparison: ComparedPair, names: Sequence[bytes]) -> str:
     """What is known of the coded pictures; nothing if only some fields are compared."""
     if comparison.has_only_fields:
         return "Only these fields were compared."
-    types = {it.type for it in comparison.records}
-    if comparison.compared.picture == Coded.UNKNOWN and XMP_FILE in types:
+    types, coded = {it.type for it in comparison.records}, comparison.compared.picture
+    if coded == Coded.UNKNOWN and XMP_FILE in types:
         return "Only metadata was compared: an XMP file has no picture."
-    if comparison.compared.picture == Coded.UNKNOWN and len(types) > 1:
+    if coded == Coded.UNKNOWN and len(types) > 1:
         return "Only metadata was compared: the pictures are in two formats."
     damages = [f"{shown_path(name)} is damaged: {it.damage}." for name, it in zip(names, comparison.records) if it.damage]
-    parts = f": {', '.join(comparison.compared.parts)}." * (comparison.compared.picture == Coded.BESIDE)
-    return " ".join(damages) or f"{comparison.compared.picture.sentence}{parts}"
+    parts = f": {', '.join(comparison.compared.parts)}." * (coded == Coded.BESIDE)
+    return " ".join(damages) or f"{coded.sentence}{parts}"
 
 
 def _heads(names: Sequence[bytes]) -> list[str]:

@@ -98,11 +98,11 @@ def _folder(files: Files) -> bytes | None:
         return None
     if len(names) != 1:
         refuse("mend", "of a catalogue or a list of pictures give the folder for the copies alone: exifnorm-pictures mend CATALOGUE OUT")
-    above = os.path.dirname(names[0].rstrip("/")) or "."
-    if not os.path.isdir(names[0]) and (os.path.lexists(names[0]) or not os.path.isdir(above)):
-        which = names[0] if os.path.lexists(names[0]) else above
+    folder = names[0]
+    which = folder if os.path.lexists(folder) else os.path.dirname(folder.rstrip("/")) or "."
+    if not os.path.isdir(which):
         refuse("mend", f"{which} is no folder: the copies go below a folder, which is made if the one above is there")
-    return os.fsencode(names[0])
+    return os.fsencode(folder)
 
 
 def _pairs(files: Files, run: Run, folder: bytes | None) -> Iterator[tuple[bytes, bytes]]:

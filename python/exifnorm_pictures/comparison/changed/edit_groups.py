@@ -9,7 +9,7 @@ from typing import Collection, Iterable, Sequence
 
 from ...model.found import STANDARDS
 from ...model.texts import pictures_in_words
-from ..wording import IN, KEPT, OUT, FieldDifference, Step, look
+from ..wording import IN, KEPT, OUT, Differences, Step, look
 from .edits import NUMBERED, line_of, NUMBERS, Edit, Edits, digest, edits_of, places_of, numberless
 
 # Different sets of edits, and edits of all of them. Nobody reads so many groups, and they take
@@ -147,7 +147,7 @@ class Kinds:
     def add(
         self,
         name: bytes,
-        changes: Sequence[FieldDifference],
+        changes: Differences,
         standards: Collection[str] = (),
     ) -> int:
         """Adds a picture with the fields that differ, and with the standards that it has. Returns

@@ -23,7 +23,7 @@ from ...fields.listing import MAKER_NOTE
 from ...fields.names import group_name
 from ...fields.plain_texts import text_of, xmp_texts
 from ...model.found import EXIF, NAMES
-from ..wording import IN, KEPT, OUT, FieldDifference, Marker, Step, numbered, plain_sides
+from ..wording import IN, KEPT, OUT, Differences, FieldDifference, Marker, Step, numbered, plain_sides
 
 # Steps of comparing words, for a text: two that have 100 words each, blanks and signs among them.
 # A longer middle is one edit as a whole, which is coarser and still true.
@@ -125,7 +125,7 @@ def digest(text: str) -> bytes:
 Edits = dict[bytes, Edit]  # by their keys
 
 
-def edits_of(changes: Sequence[FieldDifference], has_parts: bool = True) -> Edits:
+def edits_of(changes: Differences, has_parts: bool = True) -> Edits:
     """The edits of a picture, with their keys, by the fields that differ: those with a label first,
     and last what programs write by themselves. A block or directory that came or went is one edit,
     but for the texts that came with it, unless only some fields are compared."""
@@ -156,7 +156,7 @@ def _add(edits: Edits, edit: Edit) -> None:
 _Part = tuple[str, str]  # whether it came or went, and its name
 
 
-def _parts(changes: Sequence[FieldDifference]) -> dict[_Part, str]:
+def _parts(changes: Differences) -> dict[_Part, str]:
     """The blocks and directories that came or went. A small one isn't an edit by itself: what
     counts are the texts that came with it, or the only one that went with it."""
     parted = [it for it in changes if it.part]
@@ -168,7 +168,7 @@ def _parts(changes: Sequence[FieldDifference]) -> dict[_Part, str]:
     return {it: SMALL if count <= FEW and (it[0] == IN or len(texts[it]) == 1) else WHOLE for it, count in counts.items()}
 
 
-def _single(changes: Sequence[FieldDifference], parts: dict[_Part, str]) -> Iterator[Edit]:
+def _single(changes: Differences, parts: dict[_Part, str]) -> Iterator[Edit]:
     """The edits of single fields, and of those that are one: dates that moved, and positions that
     didn't go with a block or directory."""
     moved = shifts(changes)
@@ -179,16 +179,13 @@ def _single(changes: Sequence[FieldDifference], parts: dict[_Part, str]) -> Iter
     yield from (_edit(change, parts.get((change.sign, change.part), "")) for change in _without(left, positions))
 
 
-_Changes = Sequence[FieldDifference]
-
-
-def _without(changes: _Changes, others: _Changes) -> _Changes:
+def _without(changes: Differences, others: Differences) -> Differences:
     """The changes but for these ones."""
     known = set(map(id, others))
     return [it for it in changes if id(it) not in known] if known else changes
 
 
-def _of_dates(shift: timedelta, fields: Sequence[FieldDifference]) -> Edit:
+def _of_dates(shift: timedelta, fields: Differences) -> Edit:
     names = tuple(it.name for it in fields)
     before, after = (side or "" for side in plain_sides(fields[0]))
     is_minor = bool(shift % _QUARTER) and set(names) <= set(BY_THEMSELVES)
@@ -299,7 +296,7 @@ def _members(fields: Sequence[Field]) -> list[str] | None:
 # Positions
 
 
-def _positions(changes: Sequence[FieldDifference]) -> Iterator[Edit]:
+def _positions(changes: Differences) -> Iterator[Edit]:
     """The latitude and the longitude as one text, of Exif and of XMP."""
     for is_xmp in (False, True):
         mine = [it for it in changes if (it.directory == "xmp") == is_xmp]
@@ -316,7 +313,7 @@ _TIME_OF = {"2:55": "2:60", "2:62": "2:63"}  # the DataSet of the time of a date
 _DATE_OF = {time: date for date, time in _TIME_OF.items()}
 
 
-def shifts(changes: Sequence[FieldDifference]) -> dict[timedelta, list[FieldDifference]]:
+def shifts(changes: Differences) -> dict[timedelta, list[FieldDifference]]:
     """The dates that moved, by how much later they are. The date and the time of IPTC move together,
     as over midnight."""
     found: dict[timedelta, list[FieldDifference]] = {}

@@ -25,7 +25,7 @@ from ...model.problems import Problem
 from ...model.texts import Result
 from ...model.verdicts import Judged, Turns, Verdict, left_open, verdicts
 from ..coded import Coded, coded_result as result_of_coded, parts_that_differ, result_with
-from ..wording import FieldDifference, differences
+from ..wording import Differences, FieldDifference, differences
 
 if TYPE_CHECKING:
     from ...catalogue.store import Catalogue
@@ -65,7 +65,7 @@ class Seen(NamedTuple):
     kind: str
     clauses: Sequence[str] = ()  # how they are read
     repair: Repair | None = None
-    changes: Sequence[FieldDifference] = ()  # that count
+    changes: Differences = ()  # that count
     left_out: Sequence[str] = ()  # names of fields
     weights: Sequence[Weight] = ()
     is_only_note: bool = True  # whether nothing but a MakerNote differs
@@ -134,7 +134,7 @@ def _may_lack(is_lost: bool, block: Block) -> bool:
     return is_lost and block is not None and block.extractor != OWN
 
 
-def _with_fields(seen: Seen, every: Sequence[FieldDifference], is_equal: bool, part: str) -> Seen:
+def _with_fields(seen: Seen, every: Differences, is_equal: bool, part: str) -> Seen:
     """With the fields that differ. `part` is the name of a block that only one picture has."""
     by_weight: dict[Weight, list[FieldDifference]] = {weight: [] for weight in Weight}
     for difference, weight in zip(every, seen.weights):
@@ -145,7 +145,7 @@ def _with_fields(seen: Seen, every: Sequence[FieldDifference], is_equal: bool, p
     return seen._replace(changes=changes, left_out=left_out, is_only_note=is_note or (is_equal and not changes))
 
 
-def weights_of(every: Sequence[FieldDifference], is_equal: bool, choice: Choice, lost: Sequence[bool] = (False, False)) -> list[Weight]:
+def weights_of(every: Differences, is_equal: bool, choice: Choice, lost: Sequence[bool] = (False, False)) -> list[Weight]:
     """How much each difference of two blocks weighs. If no field differs, and the blocks aren't equal, something else does, which counts.
     `lost` is of which of them another program may not have found a field of a damaged file."""
     return [_weight(it, choice, lost) for it in every] or [Weight.COUNTS] * (not is_equal)
@@ -272,7 +272,7 @@ class Noted(NamedTuple):
 
     judged: Judged
     result: Result
-    changes: Sequence[FieldDifference]  # with what is known of a MakerNote in place of its bytes
+    changes: Differences  # with what is known of a MakerNote in place of its bytes
     clause: str = ""
     values: "Optional[list[maker_notes.NoteDifference]]" = None  # that ExifTool reads otherwise, if it was asked
 
@@ -280,12 +280,12 @@ class Noted(NamedTuple):
 class _Notes(NamedTuple):
     """What shows that MakerNotes differ, or may."""
 
-    lines: Sequence[FieldDifference]  # of their bytes
+    lines: Differences  # of their bytes
     has_moved: bool
     reached: Sequence[str]  # parts of the file that only they can reach
     is_rewritten: bool  # the block: then what the MakerNote leads to may be gone or have changed
 
-    def told(self, changes: Sequence[FieldDifference], note: str) -> list[FieldDifference]:
+    def told(self, changes: Differences, note: str) -> list[FieldDifference]:
         """The changes with a note in place of the bytes."""
         return [change._replace(note=note) if change in self.lines else change for change in changes]
 
@@ -333,7 +333,7 @@ def _in_doubt(before: Noted, notes: _Notes, answer: "maker_notes.ComparedNotes")
     return _open(before, notes, changes, what if notes.has_moved or answer.is_new else "")
 
 
-def _open(before: Noted, notes: _Notes, changes: Sequence[FieldDifference], part: str) -> Noted:
+def _open(before: Noted, notes: _Notes, changes: Differences, part: str) -> Noted:
     """With a part that may differ, unless a field shows that the MakerNote does."""
     if notes.lines or not part:
         return before._replace(changes=changes)
@@ -390,7 +390,7 @@ class Compared(NamedTuple):
     name: bytes
     result: Result
     note: str = ""  # the kinds that were compared, and the result
-    changes: Sequence[FieldDifference] = ()
+    changes: Differences = ()
     verdicts: Sequence[Verdict] = ()
     moved_to: bytes | None = None
     partner: bytes | None = None  # the picture with the same stem with which it was compared

@@ -12,7 +12,7 @@ from ...fields import labels
 from ...fields.field import Field
 from ...fields.plain_texts import is_utf8, text_of_comment
 from ...model.xmp_values import Array, Long, simple_texts
-from ..wording import FieldDifference
+from ..wording import Differences, FieldDifference
 
 # Before the texts whose earlier bytes are UTF-8, and before those in Windows-1252. IPTC that
 # declares UTF-8 is written so, whatever is asked for.
@@ -27,7 +27,7 @@ _ANY = "[^\0\ufffd]*"  # without what stands for a character that isn't known
 _DATES = {"iptc": r"\d{8}|\d{6}[+-]\d{4}", "xmp": _DAY, "exif": _ANY, "main": _ANY}
 
 
-def arguments(place: bytes, changes: Sequence[FieldDifference]) -> tuple[list[bytes], list[str]]:
+def arguments(place: bytes, changes: Differences) -> tuple[list[bytes], list[str]]:
     """The lines that put the earlier texts of a picture back, and the fields that they leave.
 
     >>> before, after = (Field("main", "013b", "ASCII", 5, it) for it in (b"Otto\\0", b"Anna\\0"))
