@@ -251,7 +251,7 @@ def test_a_temporary_file_that_is_not_read(called, folder, monkeypatch):
     assert called("catalogue", "export", "c", "t")[0] == 0
     before = (folder / "t").read_bytes()
     fails = lambda *_: (_ for _ in ()).throw(sqlite3.DatabaseError("database disk image is malformed"))
-    for call in ("_write", "finish"):
+    for call in ("add", "finish"):
         with monkeypatch.context() as patched:
             patched.setattr(Tables, call, fails)
             status, printed, messages = called("catalogue", "export", "c", "t")

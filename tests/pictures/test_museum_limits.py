@@ -90,7 +90,6 @@ SIZES = {
     "comparison.verified.CHUNK": 7,
     "comparison.verified.OTHERS": 2,
     "comparison.verified._AT_ONCE": 2,
-    "export.rows._ROWS": 2,
     "extract.formats.streams.CHUNK": 7,
     "extract.formats.streams.PIECE": 7,
     "fields.packing._MIDDLE": 9,

@@ -85,7 +85,7 @@ def conflicts(texts: Captions, positions: Positions = (None, None)) -> list[Conf
     """The labels with texts in two standards at least, and the position if Exif and XMP have one. An XMP sidecar counts beside them."""
     by_label = grouped((it.label, it) for it in texts if it.is_compared)
     several = {word: ours for word, ours in by_label.items() if len(set(map(_source, ours))) > 1}
-    due = [(label, several[label.word]) for label in LABELS if label.word in several]
+    due = [(label, several[label.word]) for label in LABELS if label.word in several] if several else []
     of_labels = [_conflict(label, ours) for label, ours in due if not all(it.is_empty for it in ours)]
     return [*of_labels, *_of_positions(*positions)]
 

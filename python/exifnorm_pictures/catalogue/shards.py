@@ -244,6 +244,7 @@ class Together(Catalogue):
 
     def __init__(self, folder: str, about: Sequence[About]) -> None:
         self.name = self.file = folder
+        self.files = [it.name for it in about]
         self._is_written = self._was_cut = False
         self._schemas = [f"shard{number}" for number in range(len(about))]
         self.texts = tuple(f"{schema}.texts" for schema in self._schemas)

@@ -460,6 +460,7 @@ class Catalogue:
         """Opens a catalogue to read it, or to write to it: with `make` a missing one is made, with `there` it isn't, and `adds` is as `there` if
         other runs that have it open allow it within `SHORT_WAIT`. Raises `NoCatalogue`."""
         self.name = self.file = name
+        self.files = [name]
         self._is_written = make or there or adds
         self._was_cut = False
         _check_head(name, make)

@@ -4,8 +4,8 @@ from __future__ import annotations
 
 from typing import NamedTuple, Sequence
 
-from ..fields.labels import LABEL_WORDS, LABELLED, Caption, camera_of, not_kept, of_labelled, with_own
-from ..fields.packing import BlockFields, rests_of
+from ..fields.labels import LABEL_WORDS, LABELLED, Caption, not_kept, of_labelled, with_own
+from ..fields.packing import BlockFields
 from ..fields.character_sets import in_found_set
 from ..fields.field import Field
 from ..fields.listing import rest_of
@@ -52,20 +52,24 @@ def texts_of(blocks: Sequence[BlockFields], wanted: Sequence[str] = LABEL_WORDS)
     texts: list[Caption] = []
     long = set()
     behind = set()
-    camera = ("", "")
+    rests: list[str] = []
+    exif: list[list[Field]] = []
     angles: list[Field] = []
     known: dict[int, _BlockTexts] = {}  # pages of a TIFF may share a block of many fields
     for block, fields in blocks:
+        if not fields:
+            continue
         if id(fields) not in known:
             known[id(fields)] = _texts_of_block(fields, blocks)
-            camera = camera if any(camera) or block.kind != EXIF else camera_of(fields)
+            exif += [fields] * (block.kind == EXIF)
         captions, left = known[id(fields)]
         is_first = block.name == NAMES[block.kind]
         texts += captions if is_first else [it._replace(block=block.name) for it in captions]
         angles += of_position(fields) if is_first else []
         long |= left
-        if rest_of(fields):
+        if rest := rest_of(fields):
+            rests.append(f"the fields of {block.name}{rest}")
             behind |= {word for (where, _), word in LABELLED.items() if where in _DIRECTORIES[block.kind]}
-    in_order = with_own(sorted(texts, key=lambda it: STANDARDS.index(it.standard)), *camera)
+    in_order = with_own(sorted(texts, key=lambda it: STANDARDS.index(it.standard)), exif)
     position = located(angles) if angles else (None, None)
-    return PictureTexts(in_order, long & {*wanted}, behind & {*wanted}, rests_of(blocks), position)
+    return PictureTexts(in_order, long & {*wanted}, behind & {*wanted}, rests, position)

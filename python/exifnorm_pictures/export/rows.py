@@ -3,29 +3,28 @@
 from __future__ import annotations
 
 import contextlib
+import functools
 import sqlite3
-import time
-from datetime import MAXYEAR, MINYEAR
-from itertools import islice
-from typing import Iterable, Iterator, NamedTuple, Sequence
+from itertools import chain, islice
+from typing import Any, Iterable, Iterator, NamedTuple, Sequence
 
-from ..catalogue.store import Catalogue
+from ..catalogue.store import Catalogue, address, connect
 from ..catalogue.texts import texts_of
 from ..comparison.same.group import Keep, keeping, sentence_of
 from ..comparison.same.groups import Groups
-from ..fields.packing import BlockFields, divided, field_of, unpacked
+from ..fields.packing import BlockFields, divided, field_of, text_of, unpacked
 from ..fields.field import Field
 from ..fields.labels import Captions, names_camera, word_of
 from ..fields.listing import is_rest
 from ..fields.names import exact_key, group_name
-from ..fields.places import is_of_position, position_of
-from ..fields.plain_values import plain_and_exact
+from ..fields.places import is_of_position, of_position, position_of
+from ..fields.plain_texts import EMPTY
+from ..fields.plain_values import is_bare, plain_and_exact
 from ..fields.typed import number_of
 from ..files import signals
 from ..files.session import Session
 from ..model import steps
-from ..model.records import BLOCKS, BlockRecord, PictureRecord, Row, block_of_row, not_read_of_row
-from ..model.budgets import CACHED, SQL_STEPS, WAITING_BYTES
+from ..model.records import BLOCKS, PICTURES, BlockRecord, PictureRecord, Row, block_of_row, not_read_of_row, picture_of_row
 from ..model.errors import Damaged, Failure
 from ..model.texts import path_members
 from ..scan.progress import Progress
@@ -34,7 +33,6 @@ from ..scan.progress import Progress
 
 APPLICATION = 0x45584E54  # 'EXNT', which distinguishes an export from a catalogue and from other SQLite files
 VERSION = 2
-_ROWS = 1000  # that are written at once, or fewer if they are long
 _CACHE = 8_000  # kB
 
 # Of each table its columns, each after the comment that explains it and those that follow without
@@ -222,15 +220,50 @@ _POSITIONS = "CREATE TEMP TABLE positions (picture INTEGER PRIMARY KEY, latitude
 _PLACE = """UPDATE pictures SET (latitude, longitude) = (SELECT latitude, longitude FROM positions WHERE picture = id)
     WHERE id IN (SELECT picture FROM positions)"""
 
+# By which SQLite copies the rows of a catalogue that is attached. Python looks at each, and tells
+# what a path is. Without LIMIT each place with `name` would ask for it
+_PICTURES = """INSERT INTO main.pictures
+SELECT id, name, name != CAST(path AS TEXT), CASE WHEN name != CAST(path AS TEXT) THEN path END,
+    shown(root), nullif(type, ''),
+    CASE WHEN problem != '' THEN 'not read'
+        WHEN exif || iptc || xmp IS NULL THEN 'refused'
+        WHEN exif || iptc || xmp != '' THEN 'accepted'
+        WHEN damage != '' AND not_read IS NOT '' THEN 'damaged'
+        ELSE 'no metadata' END,
+    nullif(problem, ''), nullif(detail, ''), size,
+    strftime('%Y-%m-%d %H:%M:%S', modified / 1000000000 - (modified % 1000000000 < 0), 'unixepoch'),
+    nullif(exif, ''), nullif(iptc, ''), nullif(xmp, ''),
+    nullif(coded_picture, ''), nullif(sha256, ''), nullif(damage, ''), NULL, NULL
+FROM (SELECT *, shown(path) AS name FROM catalogue.pictures WHERE is_picture({}){} LIMIT -1)"""
+_BLOCKS = """INSERT INTO main.blocks
+SELECT picture, number, kind, name, source, extractor, status, nullif(cause, ''), place, length,
+    CASE WHEN repair != '' THEN words(repair) END, digest, note IS NOT NULL
+FROM catalogue.blocks WHERE is_block({}){}"""
+
 
 class Tables:
     """The tables of a new file, which are filled row by row in memory that doesn't grow with them."""
 
     def __init__(self, base: sqlite3.Connection) -> None:
         self._base = base
-        self._rows: dict[str, list[Row]] = {}
-        self._size = 0  # of the rows that wait
+        self._put = base.cursor().executemany
         self.counts: dict[str, int] = {}
+
+    def copy(self, catalogue: Catalogue, only: str | None) -> None:
+        """Adds the pictures and blocks of a catalogue, or those of a table of paths, by SQLite alone.
+        Then a transaction begins."""
+        of_pictures = " AND path IN chosen" * bool(only)
+        of_blocks = " AND picture IN (SELECT id FROM main.pictures)" * bool(only)
+        if only:
+            self._base.execute("CREATE TEMP TABLE chosen (path BLOB PRIMARY KEY) WITHOUT ROWID")
+            self._put("INSERT INTO chosen VALUES (?)", catalogue.rows(f"SELECT path FROM {only}"))
+        for file in catalogue.files:
+            self._base.execute("ATTACH ? AS catalogue", (address(file),))
+            copied = self._base.execute(_PICTURES.format(PICTURES.listed, of_pictures)).rowcount
+            self.counts["pictures"] = self.counts.get("pictures", 0) + copied
+            self._base.execute(_BLOCKS.format(BLOCKS.listed, of_blocks))
+            self._base.execute("DETACH catalogue")
+        self._base.execute("BEGIN")
 
     def add_all(self, table: str, rows: Iterable[Row]) -> None:
         """Adds a series of rows to a table, of which a hundred at a time are made."""
@@ -240,41 +273,21 @@ class Tables:
 
     def add(self, table: str, rows: list[Row]) -> None:
         """Adds a few rows to a table."""
-        if rows:
-            self.add_storable(table, *storable(rows))
-
-    def add_storable(self, table: str, rows: Sequence[Row], size: int) -> None:
-        """Adds rows without NUL, whose texts have so many characters, to a table."""
-        waiting = self._rows.setdefault(table, [])
-        waiting += rows
-        self._size += size
-        self.counts[table] = self.counts.get(table, 0) + len(rows)
-        if self._size >= WAITING_BYTES:
-            self._write_all()
-        elif len(waiting) >= _ROWS:
-            self._write(table)
-
-    def _write_all(self) -> None:
-        for table in list(self._rows):
-            self._write(table)
-        self._size = 0
-
-    def _write(self, table: str) -> None:
-        rows = self._rows.pop(table, [])
         if not rows:
             return
-        values = f"INTO {table} VALUES ({', '.join('?' * len(rows[0]))})"
+        rows = storable(rows)
+        self.counts[table] = self.counts.get(table, 0) + len(rows)
+        statement = f"INSERT INTO {table} VALUES (?{', ?' * (len(rows[0]) - 1)})"
         try:
-            self._base.executemany(f"INSERT {values}", rows)
+            self._put(statement, rows)
         except (
             UnicodeEncodeError
         ):  # halves of characters in one of the rows, which a damaged catalogue may have; those before it are written
             whole = [[it.encode("utf-8", "backslashreplace").decode() if isinstance(it, str) else it for it in row] for row in rows]
-            self._base.executemany(f"INSERT OR REPLACE {values}", whole)
+            self._put(statement.replace("INSERT", "INSERT OR REPLACE", 1), whole)
 
     def finish(self) -> None:
         """Writes what is left, and the indexes."""
-        self._write_all()
         self._base.execute(_PLACE)
         self._base.execute("COMMIT")
         self._base.executescript(_INDEXES)
@@ -284,8 +297,9 @@ class Tables:
 @contextlib.contextmanager
 def tables(file: str) -> Iterator[Tables]:
     """The tables of a new file. A file that is cut short is of no use to anybody, so nothing of it is kept safe."""
-    with contextlib.closing(sqlite3.connect(file, isolation_level=None)) as base:
+    with contextlib.closing(connect(address(file, "rwc"))) as base:
         for pragma in (
+            "foreign_keys = OFF",
             f"application_id = {APPLICATION}",
             f"user_version = {VERSION}",
             "journal_mode = OFF",
@@ -293,9 +307,11 @@ def tables(file: str) -> Iterator[Tables]:
             f"cache_size = -{_CACHE}",
         ):
             base.execute(f"PRAGMA {pragma}")
-        base.set_progress_handler(lambda: 0, SQL_STEPS)  # lets Python heed a signal while an index is made
         base.executescript(SCHEMA + _POSITIONS)
-        base.execute("BEGIN")
+        base.create_function("is_picture", PICTURES.width, lambda *row: bool(picture_of_row(row)))
+        base.create_function("is_block", BLOCKS.width, lambda *row: bool(block_of_row(row)))
+        base.create_function("words", 1, lambda text: without_nul(steps.words(steps.unpacked(text))) or None)
+        base.create_function("shown", 1, functools.lru_cache(2)(_shown))  # a path, and the folder of many
         written = Tables(base)
         try:
             yield written
@@ -307,16 +323,15 @@ def tables(file: str) -> Iterator[Tables]:
             raise
 
 
-def storable(rows: list[Row]) -> tuple[list[Row], int]:
-    r"""Rows as they can be stored, and the characters of their texts.
+def storable(rows: list[Row]) -> list[Row]:
+    r"""Rows as they can be stored.
 
     >>> storable([(1, "a\0b", None, "c"), (2, "", None, "d")])
-    ([(1, 'a\\x00b', None, 'c'), (2, '', None, 'd')], 5)
+    [(1, 'a\\x00b', None, 'c'), (2, '', None, 'd')]
     """
-    text = "".join([cell for row in rows for cell in row if type(cell) is str])
-    if "\0" in text:
-        rows = [tuple(without_nul(cell) if isinstance(cell, str) else cell for cell in row) for row in rows]
-    return rows, len(text)
+    if "\0" not in "".join(map(str, chain.from_iterable(rows))):
+        return rows
+    return [tuple(without_nul(cell) if isinstance(cell, str) else cell for cell in row) for row in rows]
 
 
 def without_nul(text: str) -> str:
@@ -333,6 +348,8 @@ def head_is_ours(head: bytes) -> bool:
     return head[:16] == b"SQLite format 3\0" and int.from_bytes(head[68:72], "big") == APPLICATION
 
 
+# The columns of a block that no text depends on
+_OTHERS = BlockRecord("", "", "", "", "", None, None, None, 0, "")[2:]
 KEPT_ROWS, SHORT = 2048, 300  # rows of fields that are kept, of each kind, and the most characters of such a field as JSON
 
 
@@ -349,10 +366,10 @@ class Export:
     def all(self, quiet: bool) -> None:
         """Adds each picture, and then the groups. Prints its progress, unless it is quiet."""
         where = f" WHERE picture IN (SELECT id FROM pictures WHERE path IN {self.only})" if self.only else ""
-        self.tables.add_all("pictures", map(_picture_row, self.catalogue.pictures(self.only)))
+        self._copy()
         self.tables.add_all("not_read", self.catalogue.rows(f"SELECT picture, number, what, digest FROM not_read{where}", (), _part_row))
         progress = Progress(self.tables.counts.get("pictures", 0), quiet=quiet)
-        for count, (picture, rows) in enumerate(self.catalogue.packed_fields(", ".join(BLOCKS.names[:-1]), where), 1):
+        for count, (picture, rows) in enumerate(self.catalogue.packed_fields("kind, name, note", where), 1):
             self._picture(picture, rows)
             progress.done(count)
         progress.done(progress.total)
@@ -362,21 +379,30 @@ class Export:
             kept = ((it.id, keeps.get(it.id, Keep())) for it in group.members)
             self.tables.add_all("groups", ((*about, number, it.keep, it.note() or None) for number, it in kept))
 
-    def _picture(self, picture: int, rows_of_blocks: Iterable[Row]) -> None:
-        """Adds the blocks of a picture, and what they have."""
+    def _copy(self) -> None:
+        """Adds pictures and blocks. Raises `NoCatalogue` if one is damaged."""
+        try:
+            self.tables.copy(self.catalogue, self.only)
+        except sqlite3.Error as error:
+            signals.go_on_stopping()
+            for _ in chain(self.catalogue.pictures(), self.catalogue.rows(f"SELECT {BLOCKS.listed} FROM blocks", (), block_of_row)):
+                pass  # SQLite doesn't say what is damaged of a row
+            if "disk is full" in str(error):  # that of the export
+                raise
+            raise self.catalogue.failure(error) from error
+
+    def _picture(self, picture: int, rows_of_blocks: Sequence[tuple[Any, ...]]) -> None:
+        """Adds what the blocks of a picture have."""
         with self.catalogue.guarded():
-            blocks = [(block, self._fields.of_block(block.fields)) for block in map(block_of_row, rows_of_blocks)]
-        angles = [row.angle for _, rows in blocks for row in rows if row.angle]
-        place = position_of(angles) if angles else None
-        if place:
-            self.tables.add("positions", [(picture, *place)])
-        if any(block.note is not None for block, _ in blocks):
+            fields = [self._fields.of_block(row[-1]) for row in rows_of_blocks]
+        self.tables.add_all(
+            "fields",
+            ((picture, number, at, *row.cells) for number, rows in enumerate(fields) for at, row in enumerate(rows)),
+        )
+        if any([note is not None for _, _, note, _ in rows_of_blocks]):
             self._maker_notes(picture)
-        self.tables.add("blocks", [(picture, number, *_block_row(block)) for number, (block, _) in enumerate(blocks)])
-        for number, (_, rows) in enumerate(blocks):
-            cells = [(picture, number, at, *row.cells) for at, row in enumerate(rows)]
-            self.tables.add_storable("fields", cells, sum([row.size for row in rows]))
-        self._texts(picture, [(block, [it for row in rows for it in (row.text, row.angle) if it]) for block, rows in blocks])
+        blocks = [BlockRecord._make((*row[:2], *_OTHERS)) for row in rows_of_blocks]
+        self._texts(picture, [(block, [row.part for row in rows if row.part]) for block, rows in zip(blocks, fields)])
 
     def _maker_notes(self, picture: int) -> None:
         """What ExifTool reads of the MakerNotes of a picture, if it was asked."""
@@ -388,6 +414,10 @@ class Export:
         self.tables.add("maker_notes", [(picture, at, *value) for at, value in enumerate(values)])
 
     def _texts(self, picture: int, blocks: Sequence[BlockFields]) -> None:
+        angles = [it for _, fields in blocks for it in of_position(fields)]
+        place = position_of(angles) if angles else None
+        if place:
+            self.tables.add("positions", [(picture, *place)])
         texts = texts_of(blocks)
         missing = texts.missing
         self.missing += bool(missing)
@@ -400,60 +430,27 @@ def _part_row(row: Row) -> Row:
     return (*row[:2], not_read_of_row(row[2:]).what)
 
 
-def _picture_row(picture: PictureRecord) -> Row:
-    path, is_escaped = _path(picture.path)
-    names = (path, int(is_escaped), picture.path if is_escaped else None, _path(picture.root)[0])
-    about = (picture.type or None, _state(picture), picture.problem or None, picture.detail or None, picture.size, _time(picture.modified))
-    digests = [one or None for one in (*picture.meanings, picture.coded_picture, picture.sha256)]
-    return (picture.id, *names, *about, *digests, picture.damage or None, None, None)
-
-
-def _path(path: bytes) -> tuple[str, bool]:
-    """A path as a text, and whether it is escaped, since it is no UTF-8."""
-    members = path_members(path)
-    return members["path"], "path_hex" in members
-
-
-def _state(picture: PictureRecord) -> str:
-    if picture.problem:
-        return "not read"
-    return "no metadata" if picture.state == "no block" else picture.state
-
-
-def _time(nanoseconds: int | None) -> str | None:
-    """A time of the file system as UTC, without parts of a second; None for one that no calendar has."""
-    if nanoseconds is None:
-        return None
-    try:
-        year, month, day, *clock = time.gmtime(nanoseconds // 1_000_000_000)[:6]
-    except (OverflowError, OSError):
-        return None
-    return "%04d-%02d-%02d %02d:%02d:%02d" % (year, month, day, *clock) if MINYEAR <= year <= MAXYEAR else None
-
-
-def _block_row(block: BlockRecord) -> Row:
-    return (
-        *block[:5],
-        block.cause or None,
-        block.place,
-        block.length,
-        steps.words(block.steps) or None,
-        block.digest,
-        int(block.note is not None),
-    )
+def _shown(path: bytes) -> str:
+    """A path as a text, in which bytes are escaped if it is no UTF-8."""
+    return without_nul(str(path_members(path)["path"]))
 
 
 class FieldRow(NamedTuple):
     """The row of a field."""
 
-    cells: Row  # without NUL
-    size: int  # of its texts, in characters
-    text: Field | None  # the field, if the texts of a picture are made of such fields
-    angle: Field | None  # the same of its position
+    cells: Row
+    part: Field | None  # the field, if the texts or the position of a picture are made of such fields
 
 
-# What the row of a field has by its directory and its tag: its name, its key, whether the texts of a picture are made of such fields, and its position
-_About = tuple[str, str, bool, bool]
+def _of_tag(directory: str, tag: str) -> tuple[str, str, bool, bool]:
+    """What the row of a field has by its directory and its tag: its name, its key, whether the texts or the position of a picture are made of
+    it, and whether a text of it is printed as it is."""
+    field = Field(directory, tag, "", 0, b"")
+    is_part = word_of(field) is not None or names_camera(field) or is_rest(directory, tag) or is_of_position(field)
+    return group_name(directory, tag), exact_key(directory, tag), is_part, is_bare(directory, tag)
+
+
+_cached = functools.lru_cache(maxsize=KEPT_ROWS)(_of_tag)
 
 
 class FieldRows:
@@ -462,7 +459,6 @@ class FieldRows:
 
     def __init__(self) -> None:
         self._kept: dict[str, dict[str, FieldRow]] = {}  # by how a field begins, and its rest
-        self._about: dict[tuple[str, str], _About] = {}  # by directory and tag
 
     def of_block(self, octets: bytes | None) -> list[FieldRow]:
         """The row of each field of a block. Raises `Damaged`."""
@@ -476,33 +472,23 @@ class FieldRows:
             return list(map(self._row_of, unpacked(octets)))
 
     def _new(self, begin: str, rest: str) -> FieldRow:
-        row, kept = self._row_of(field_of(begin, rest)), self._kept[begin]
-        if row.size <= CACHED and len(rest) <= SHORT:
+        is_short, kept = len(rest) <= SHORT, self._kept[begin]
+        known = text_of(begin, rest) if is_short else None
+        row = self._row_of(*known) if known else self._row_of(field_of(begin, rest))
+        if is_short:
             if len(kept) >= KEPT_ROWS:
                 kept.clear()
             kept[rest] = row
         return row
 
-    def _row_of(self, field: Field) -> FieldRow:
-        name, key, is_text, is_angle = self._about.get((field.directory, field.tag)) or self._about_of(field)
-        texts = [name, field.directory, key, field.type, *plain_and_exact(field)]
-        all_of_them = "".join(texts)
-        if "\0" in all_of_them:
-            texts = list(map(without_nul, texts))
-        number = number_of(field)
-        return FieldRow(
-            (*texts[:4], field.count, *texts[4:], number), len(all_of_them), field if is_text else None, field if is_angle else None
-        )
-
-    def _about_of(self, field: Field) -> _About:
-        directory, tag = field.directory, field.tag
-        is_text = word_of(field) is not None or names_camera(field) or is_rest(directory, tag)
-        about = (group_name(directory, tag), exact_key(directory, tag), is_text, is_of_position(field))
-        if len(directory) + len(tag) <= SHORT:
-            if len(self._about) >= KEPT_ROWS:
-                self._about.clear()
-            self._about[directory, tag] = about
-        return about
+    def _row_of(self, field: Field, text: str | None = None) -> FieldRow:
+        directory, tag, kind, count, _ = field._identity
+        name, key, is_part, is_bare = _cached(directory, tag) if len(tag) <= SHORT else _of_tag(directory, tag)
+        part = field if is_part else None
+        if text is not None and is_bare:
+            shown = text if directory == "xmp" else text.rstrip(" ")
+            return FieldRow((name, directory, key, kind, count, shown or EMPTY, f'"{text}"', None), part)
+        return FieldRow((name, directory, key, kind, count, *plain_and_exact(field), number_of(field)), part)
 
 
 def _text_rows(texts: Captions) -> Iterator[Row]:

@@ -331,10 +331,13 @@ def _of_label(label: Label, exif: _ByTag, record: _Record) -> Iterator[Caption]:
         yield _of_octets(label.word, NAMES[IPTC], _NAMES["iptc", label.iptc], record[label.iptc], is_utf8)
 
 
-def with_own(texts: Captions, make: str = "", model: str = "") -> list[Caption]:
-    """The texts of a picture, of which captions and comments are marked that a camera with this make and model, or a program, writes by
+def with_own(texts: list[Caption], exif: Iterable[Sequence[Field]]) -> list[Caption]:
+    """The texts of a picture with these blocks of Exif, of which captions and comments are marked that its camera, or a program, writes by
     itself; also where another program has copied them to IPTC or XMP."""
     possible = {id(it.texts): it.line for it in texts if it.label in _CAN_BE_OWN}  # pages of a TIFF may share a long text
+    if not possible:
+        return texts
+    make, model = next(filter(any, map(camera_of, exif)), ("", ""))
     own = {key for key, line in possible.items() if is_own(line, make, model)}
     return [it._replace(is_own=True) if it.label in _CAN_BE_OWN and id(it.texts) in own else it for it in texts]
 

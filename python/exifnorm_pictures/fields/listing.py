@@ -26,7 +26,7 @@ DATASET_DATES = "1:70 2:30 2:37 2:47 2:55 2:62".split()
 DATASET_TIMES = "1:80 2:35 2:38 2:60 2:63".split()
 DATASET_NUMBERS = ("1:0", "1:20", "1:22", "2:0")
 _GPS_COMMENTS = {"001b", "001c"}
-_MARKED = {"9286"} | _GPS_COMMENTS | WIDE_TEXTS  # tags of texts that aren't bare ones
+MARKED = {"9286"} | _GPS_COMMENTS | WIDE_TEXTS  # tags of texts that aren't bare ones
 
 MAKER_NOTE = ("exif", "927c")
 
@@ -150,7 +150,7 @@ def numbers_text(kind: str, values: "tuple[int, ...] | tuple[Ratio, ...]") -> st
 
 def marked_text(field: Field, octets: bytes) -> tuple[str, str] | None:
     """Bytes as a text that can be printed, without the NUL at its end, and a mark for its form; None if they are none."""
-    if field.tag in _MARKED:
+    if field.tag in MARKED:
         if is_wide_text(field) and (text := _wide_text(octets)) is not None:
             return "utf-16 ", text
         if is_comment(field) and octets[:8] == b"ASCII\0\0\0" and (text := _printable(octets[8:])) is not None:

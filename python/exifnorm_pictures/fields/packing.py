@@ -14,6 +14,7 @@ from __future__ import annotations
 
 import hashlib
 import json
+import re
 import zlib
 from functools import partial
 from typing import Any, Callable, Generic, Iterable, Iterator, Optional, Sequence, TypeVar
@@ -25,7 +26,7 @@ from ..model.errors import Damaged
 from ..model.budgets import FIELD_BYTES, KEPT_BYTES, LINES_BYTES, NESTED
 from ..model.xmp_values import Array, Literal, Long, Structure, Uri, XmpValue
 from .field import Content, Field
-from .listing import MAKER_NOTE, OCTETS, digest_of, kept_property, kept_value, plain_text, rest_of
+from .listing import MAKER_NOTE, OCTETS, digest_of, kept_property, kept_value, plain_text
 
 # The packed fields of all blocks of a picture as few bytes: a picture often has a text in several blocks, so they are compressed together,
 # those of each block in a line.
@@ -79,7 +80,7 @@ def parted(cells: Iterable[bytes | None]) -> _Cells:
         if cell is not None:
             following = iter(_lines(cell))
         text = next(following, b"")
-        left -= 0 if is_short(text) else len(text)
+        left -= len(text) if len(text) > _SHORTEST else 0
         if left < 0:
             raise Damaged("the fields of a picture are too long")
         texts.append(text or None)
@@ -245,6 +246,27 @@ def field_of(begin: str, rest: str) -> Field:
         raise Damaged(f"a field that can't be read: {error}") from error
 
 
+# A text in JSON that has neither a quote nor a backslash
+_BARE = {
+    _FIELD: re.compile(r'(\w+)","([ !#-\[\]-~]+)","(ASCII|octets)",(0|[1-9]\d{0,8}),"([ !#-\[\]-~]*)"', re.A),
+    _PROPERTY: re.compile(r'()([ !#-\[\]-~]+)","(text)",(1),\["([ !#-\[\]-~]*)"\]'),
+}
+
+
+def text_of(begin: str, rest: str) -> tuple[Field, str] | None:
+    """The field of such a part, and its text, if it is one of ASCII that JSON has as it is. None of another one.
+
+    >>> text_of('["', 'iptc","2:5","octets",1,"a"'), text_of('["xmp","', r'dc:title","text",1,["\\n"]')
+    ((Field(name='IPTC:ObjectName', text='a'), 'a'), None)
+    """
+    match = _BARE[begin].fullmatch(rest)
+    if match is None:
+        return None
+    directory, tag, kind, count, text = match.groups()
+    content = _octets(int(count), text) if directory else (Literal(text),)
+    return Field(directory or "xmp", tag, kind, int(count), content), text
+
+
 _decoded = json.JSONDecoder().raw_decode  # which looks for nothing after a value
 
 
@@ -373,8 +395,3 @@ def known_fields(block: BlockRecord) -> list[Field] | None:
 def fields_of(block: BlockRecord) -> list[Field]:
     """The same, where those that aren't known count as none. Raises `Damaged`."""
     return known_fields(block) or []
-
-
-def rests_of(blocks: Iterable[BlockFields]) -> list[str]:
-    """What is said of blocks that have more fields than are kept: a text may be among these."""
-    return [f"the fields of {block.name}{rest}" for block, fields in blocks for rest in [rest_of(fields)] if rest]

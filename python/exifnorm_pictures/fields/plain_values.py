@@ -11,7 +11,7 @@ from ..model.texts import escaped, quoted
 from ..model.xmp_values import Literal
 from . import plain_numbers as numbers
 from .field import Field
-from .listing import DATASET_DATES, DATASET_NUMBERS, DATASET_TIMES, OCTETS, exact, is_comment, kept_value, marked_text, shortened
+from .listing import DATASET_DATES, DATASET_NUMBERS, DATASET_TIMES, MARKED, OCTETS, exact, is_comment, kept_value, marked_text, shortened
 from .plain_texts import EMPTY, guessed, plain_comment, plain_xmp, text_of
 
 # Words for numbers: TIFF 6.0 and CIPA DC-008 (Exif 2.32), 4.6
@@ -139,13 +139,21 @@ def plain_and_exact(field: Field) -> tuple[str, str]:
     >>> plain_and_exact(Field("main", "013b", "ASCII", 5, b"Otto\\0"))
     ('Otto', '"Otto"')
     """
-    rules = _RULES.get(field.directory)
-    if rules is not None and field.tag not in rules and isinstance(field.content, bytes):
+    if field.directory in _RULES and field.tag not in _RULES[field.directory] and isinstance(field.content, bytes):
         value = kept_value(field)
         marked = marked_text(field, value) if isinstance(value, bytes) else None
         if marked:
             return marked[1].rstrip("\0 ") or EMPTY, marked[0] + quoted(marked[1])
     return plain(field), exact(field)
+
+
+def is_bare(directory: str, tag: str) -> bool:
+    """Whether a text of such a field is printed as it is.
+
+    >>> is_bare("main", "013b"), is_bare("main", "0132"), is_bare("xmp", "xmp:CreateDate")
+    (True, False, True)
+    """
+    return directory == "xmp" or (directory in ("main", "exif", "iptc") and tag not in _RULES[directory] and tag not in MARKED)
 
 
 def in_line(field: Field) -> str:
