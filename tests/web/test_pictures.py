@@ -206,10 +206,10 @@ def captions_of(picture):
     return {label: texts for label, texts in found.items() if texts}
 
 
-def own_text(text, camera, has_second):
+def own_text(text, make, model, has_second):
     """A picture of a camera, with a caption in Exif and in IPTC. Some have a block without a camera before it, and a preview of another one."""
-    make, model = ((tag, ASCII, it.encode() + b"\0") for tag, it in zip((0x010F, 0x0110), camera))
-    block = made.tiff([(0x010E, ASCII, text.encode() + b"\0"), make, model], [(0x0110, ASCII, b"preview\0")] if has_second else [])
+    fields = [(tag, ASCII, it.encode() + b"\0") for tag, it in ((0x010E, text), (0x010F, make), (0x0110, model))]
+    block = made.tiff(fields, [(0x0110, ASCII, b"preview\0")] if has_second else [])
     other = [made.app1(made.small_tiff((0x0131, ASCII, b"GIMP\0")))] * has_second
     return made.jpeg(*other, made.app1(block), made.with_record(made.data_set(120, text.encode())))
 
@@ -221,8 +221,8 @@ def made_pictures():
     for night in (first_night(), second_night()):
         some += [(name, it) for name, it in night.items() if isinstance(it, bytes) and it]
     some += [("dated", odd_dates.dated(chance)) for _ in range(DATED)]
-    texts = [*product(OWN + PEOPLE, [("Apple", "iPhone 12"), ("", "C-1998")]), *((text, [make, model]) for text, make, model in OF_CAMERAS)]
-    some += [("own.jpg", own_text(*it, chance.random() < 0.5)) for it in texts]
+    texts = [*((text, "Apple", "iPhone 12") for text in OWN + PEOPLE), *OF_CAMERAS]
+    some += [("own.jpg", own_text(*it, has_second)) for it, has_second in product(texts, (False, True))]
     some += [("odd.jpg", odd_heads.pair(chance)[0]) for _ in range(ODD)]
     of_formats = [it for it in some if it[0].startswith(("formats/", "states/", "rare/", "notes/", "sidecars/"))]
     return some + [(f"damaged/{name}", changed(it, chance)) for name, it in (chance.choice(of_formats) for _ in range(DAMAGED))]
