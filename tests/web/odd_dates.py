@@ -53,7 +53,8 @@ def dated(chance: Random) -> bytes:
     """A JPEG, or a TIFF; with Photoshop's digest of the IPTC, which may be that of another one."""
     days = [(number, written(chance, "{:04}{:02}{:02}")) for number in (55, 55, 30, 62)]
     clocks = [(number, chance.choice(CLOCKS)) for number in (60, 60, 35, 63)]
-    record = b"".join(data_set(number, text.encode()) for number, text in days + clocks if chance.random() < 0.5)
+    version = data_set(0, bytes([chance.randrange(3), 2])) * (chance.random() < 0.3)
+    record = version + b"".join(data_set(number, text.encode()) for number, text in days + clocks if chance.random() < 0.5)
     digest = chance.choice((b"", hashlib.md5(record, usedforsecurity=False).digest(), b"that of another!"))
     resources = [resource(0x0404, record)] + [resource(0x0425, digest)] * bool(digest)
     fields, properties = directories(chance), packet(chance)
