@@ -11,7 +11,7 @@ TYPE_CHECKING = False  # that of `typing`, which takes long to import
 if TYPE_CHECKING:
     from typing import Any, Callable, NoReturn, Optional, TypeVar
 
-    from ._fields import Octets
+    from ._aliases import Octets
     from ._library import Failure
 
     _Call = TypeVar("_Call", bound=Callable[..., Any])

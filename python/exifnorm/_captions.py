@@ -7,8 +7,8 @@ import re
 import struct
 from typing import List, NamedTuple, Optional
 
+from ._aliases import Octets
 from ._calls import captions_text
-from ._fields import Octets
 from ._reading import fields
 from ._words import documented
 

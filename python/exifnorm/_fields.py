@@ -2,14 +2,14 @@
 
 from __future__ import annotations
 
-from mmap import mmap
-from typing import Tuple, Union
-
+from ._hints import TYPE_CHECKING, Any
 from ._named import NamedTuple
 from ._words import documented
 
-Octets = Union[bytes, bytearray, memoryview, mmap]
-"""A block's bytes. Any other object with contiguous bytes works too, such as an array."""
+if TYPE_CHECKING:
+    from ._aliases import Values
+else:
+    Values = Any
 
 
 @documented
@@ -22,9 +22,6 @@ class Ratio(NamedTuple):
 
     numerator: int
     denominator: int
-
-
-Values = Union[bytes, Tuple[int, ...], Tuple[Ratio, ...], Tuple[bytes, ...]]
 
 
 @documented

@@ -4,7 +4,7 @@ from __future__ import annotations
 
 from itertools import count, starmap
 from struct import Struct, iter_unpack, unpack_from
-from typing import Any, Callable, Dict, Iterator, List, Sequence, Set, Tuple
+from ._hints import Any, Callable, Dict, Iterator, List, Sequence, Set, Tuple
 
 from ._calls import kind
 from ._errors import Refused

@@ -5,16 +5,16 @@ from __future__ import annotations
 import hashlib
 import operator
 import struct
-from typing import TYPE_CHECKING, Any, Dict, Iterable, Iterator, List, Literal, NoReturn, Optional, Tuple, Union
 
 from ._calls import view_of
 from ._errors import HeadRefused, PictureRefused, TooMany, XmpNotRead
-from ._fields import Octets
+from ._hints import TYPE_CHECKING, Any, Dict, Iterable, Iterator, List, Literal, NoReturn, Optional, Tuple, Union
 from ._library import PART, PLACE, RESOURCE, Status, library
 from ._named import NamedTuple
 from ._words import EXIF, IPTC, documented
 
 if TYPE_CHECKING:
+    from ._aliases import Octets
     from ._library import PictureFailure
 
 PART_KINDS = ("", "exif", "photoshop", "xmp", "extended xmp")  # of parts, by the library's numbers

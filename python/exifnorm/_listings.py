@@ -4,7 +4,8 @@ from __future__ import annotations
 
 from typing import Iterator, List
 
-from ._fields import BlockField, Ratio, Values
+from ._aliases import Values
+from ._fields import BlockField, Ratio
 from ._words import DATASETS
 
 _BYTES = {"BYTE", "ASCII", "SBYTE", "UNDEFINED", "UTF8"}

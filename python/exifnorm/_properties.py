@@ -4,10 +4,15 @@ from __future__ import annotations
 
 import functools
 import re
-from typing import Any, Callable, List, Tuple, Union
 
+from ._hints import TYPE_CHECKING, Any, Callable, List, Tuple
 from ._named import NamedTuple
 from ._words import documented
+
+if TYPE_CHECKING:
+    from ._aliases import XmpValue
+else:
+    XmpValue = Any
 
 
 @documented
@@ -53,9 +58,6 @@ class XmpStructure(NamedTuple):
     """
 
     properties: "Tuple[XmpProperty, ...]"
-
-
-XmpValue = Union[XmpText, XmpResource, XmpContainer, XmpStructure]
 
 
 @documented

@@ -4,9 +4,10 @@ from __future__ import annotations
 
 from typing import List
 
+from ._aliases import Octets
 from ._calls import normal, show
 from ._errors import NormalTooLong
-from ._fields import BlockField, Octets
+from ._fields import BlockField
 from ._forms import fields_of_form
 from ._listings import fields_of_listing
 

@@ -2,13 +2,14 @@
 
 from __future__ import annotations
 
-from typing import List
-
 from ._calls import _copied
 from ._errors import XmpRefused
-from ._fields import Octets
+from ._hints import TYPE_CHECKING, List
 from ._library import Status, library
 from ._properties import PROPERTIES, XmpProperty, made_of_form
+
+if TYPE_CHECKING:
+    from ._aliases import Octets
 
 
 def xmp_normal(packet: Octets) -> bytes:

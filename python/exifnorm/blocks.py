@@ -11,10 +11,11 @@ from ._late import late
 
 TYPE_CHECKING = False  # that of `typing`, which takes long to import
 if TYPE_CHECKING:
+    from ._aliases import Octets, Values, XmpValue
     from ._calls import digest, embeddable, kind, normal, same, show, version
     from ._captions import BlockCaption, captions
     from ._errors import LIMIT, HeadRefused, LibraryMissing, NormalTooLong, PictureRefused, Refused, TooMany, XmpNotRead, XmpRefused
-    from ._fields import BlockField, Octets, Ratio, Values
+    from ._fields import BlockField, Ratio
     from ._jpeg import (
         JpegBlock,
         JpegPart,
@@ -30,7 +31,7 @@ if TYPE_CHECKING:
         photoshop_resources,
     )
     from ._library import Status
-    from ._properties import XmpContainer, XmpProperty, XmpResource, XmpStructure, XmpText, XmpValue
+    from ._properties import XmpContainer, XmpProperty, XmpResource, XmpStructure, XmpText
     from ._reading import fields
     from ._xmp import xmp_normal, xmp_properties
 
@@ -89,6 +90,8 @@ if not TYPE_CHECKING:  # a type checker would take any name for one of these
         """The module that defines a name."""
         from importlib import import_module
 
+        if name in ("Octets", "Values", "XmpValue"):  # for annotations alone, so few programs need them
+            return "exifnorm._aliases"
         return next(it for it in (f"exifnorm.{one}" for one in _MODULES) if hasattr(import_module(it), name))
 
     __getattr__, __dir__ = late(globals(), _module_of)

@@ -13,7 +13,7 @@ from exifnorm._words import documented
 
 from .comparison.origin import Origin
 from .extract.extraction import failed
-from .fields.packing import BlockFields, fields_of
+from .fields.block_fields import BlockFields, fields_of
 from .fields.character_sets import in_found_set
 from .fields.names import spellings
 from .fields.listing import Shown

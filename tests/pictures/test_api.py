@@ -172,7 +172,7 @@ def test_a_long_structure_has_a_value(tmp_path):
     field, again = pictures.read(tmp_path / "a.jpg").find("DerivedFrom")[0], pictures.read(tmp_path / "a.jpg").find("DerivedFrom")[0]
     assert field.value == {f"dc:source{number}": word for number, word in enumerate(words)}
     assert pickle.loads(pickle.dumps(field)).value == field.value and "sha256:" in field.exact
-    (kept,) = packing.unpacked(packing.packed([field]).octets)
+    (kept,) = packing.unpacked(packing.packed([field])[0])
     assert field == again == kept and hash(field) == hash(kept) and kept.exact == field.exact and kept.value is None
 
 

@@ -12,10 +12,11 @@ from test_repairs import REFUSED
 
 from exifnorm_pictures.catalogue.store import Catalogue
 from exifnorm_pictures.cli import main
-from exifnorm_pictures.fields import packing
+from exifnorm_pictures.fields import block_fields, packing
 from exifnorm_pictures.fields.field import Field
 from exifnorm_pictures.judge import judge
-from exifnorm_pictures.model.records import BLOCKS, PICTURES, block_of_row, not_read_of_row
+from exifnorm_pictures.model.records import not_read_of_row
+from exifnorm_pictures.model.tables import BLOCKS, PICTURES, block_of_row
 from exifnorm_pictures.model.errors import Damaged
 from exifnorm_pictures.model.found import Blocks
 from exifnorm_pictures.catalogue import store
@@ -131,7 +132,7 @@ def catalogue(archive, tmp_path, monkeypatch):
     return tmp_path / "c"
 
 
-LONG = packing.packed([Field("main", "010e", "ASCII", 5, b"abcd\0")] * 20_000).octets  # 0.7 MB as JSON
+LONG = packing.packed([Field("main", "010e", "ASCII", 5, b"abcd\0")] * 20_000)[0]  # 0.7 MB as JSON
 
 
 @pytest.mark.parametrize("words", [["catalogue", "export", "c", "tables"], ["show", "--captions", "c"], ["report", "c", "--html", "page"]])
@@ -168,7 +169,7 @@ def test_fields_are_unpacked_where_they_are_needed(tmp_path, monkeypatch, called
     with Catalogue("before") as base:
         blocks = base.blocks_of(next(base.pictures()))
         assert [block.name for block in blocks] == ["XMP", "Exif", "XMP sidecar"] and not asked
-        assert [len(packing.fields_of(block)) for block in blocks * 2] == [1, 1, 1] * 2 and len(asked) == 1
+        assert [len(block_fields.fields_of(block)) for block in blocks * 2] == [1, 1, 1] * 2 and len(asked) == 1
     put("p", {"a.jpg": jpeg(app1(exif(b"Otto")), app1_xmp(title("one")))})
     called("index", "p", "--catalogue", "after", "--sidecars", "--quiet")
     assert called("changed", "before", "after")[0] == 2 and len(asked) == 3, "once for each side"

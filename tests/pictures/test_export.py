@@ -212,7 +212,7 @@ def test_the_rows_of_a_block_do_not_depend_on_earlier_ones(blocks):
     rows = FieldRows()
     for contents in blocks:
         fields = [Field("xmp", "dc:a", "Bag", 1, tuple(it)) for content in contents for it in (content, list(map(turned, content)))]
-        octets = packed(fields).octets
+        octets = packed(fields)[0]
         expected = [((it.directory, it.key, it.type, it.count), it.text, it.exact) for it in unpacked(octets)]
         assert texts_of_rows(rows.of_block(octets)) == expected
 

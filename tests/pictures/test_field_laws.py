@@ -89,7 +89,7 @@ def test_fields_are_equal_exactly_if_normal_forms_are(pair):
     is_same = one.normal() == other.normal()
     first, second = fields_of(one, "<"), fields_of(other, ">")
     assert (first == second) is is_same
-    kept = [unpacked(packed(fields).octets) for fields in (first, second)]
+    kept = [unpacked(packed(fields)[0]) for fields in (first, second)]
     assert (kept[0] == kept[1]) is is_same, "also those of a catalogue"
     assert all(hash(a) == hash(b) for a, b in zip(first, second) if a == b)
 
@@ -115,7 +115,7 @@ def made_of(field):
 @given(BLOCKS)
 def test_what_is_kept_is_the_value(meaning):
     fields = fields_of(meaning)
-    again = unpacked(packed(fields).octets)
+    again = unpacked(packed(fields)[0])
     assert again == [field._with_content(kept_value(field)) for field in fields]
     whole = [(one, other) for one, other in zip(fields, again) if not isinstance(other.content, Long)]
     assert all(
@@ -124,7 +124,7 @@ def test_what_is_kept_is_the_value(meaning):
     )
     assert [made_of(field) for field in fields if not isinstance(kept_value(field), Long)] == [made_of(other) for _, other in whole]
     assert [exact(field) for field in fields] == [exact(field) for field in again]
-    assert unpacked(packed(again).octets) == again
+    assert unpacked(packed(again)[0]) == again
     if len(whole) == len(fields):
         assert list(labels.of_block(again)) == list(labels.of_block(fields))
 
@@ -142,7 +142,7 @@ def test_raw_bytes_are_those_of_the_normal_form(meaning):
 def test_what_is_made_together_is_what_is_made_one_by_one(meaning):
     """An export asks for both texts of a value together, and for a number only of fields that may be one."""
     fields = fields_of(meaning)
-    for field in (*fields, *unpacked(packed(fields).octets)):
+    for field in (*fields, *unpacked(packed(fields)[0])):
         value = typed.typed(field)
         assert plain_values.plain_and_exact(field) == (plain_values.plain(field), exact(field)), field
         assert typed.number_of(field) == (value if isinstance(value, (int, float)) else None), (field, value)
@@ -228,7 +228,7 @@ def test_fields_of_xmp_are_equal_exactly_if_they_mean_the_same(one, other, chanc
     assert (statements_of.digest_of_statements(found[0]) == statements_of.digest_of_statements(found[1])) is is_same
     fields = [xmp_properties.fields_of_statements(it) for it in found]
     assert (fields[0] == fields[1]) is is_same
-    again = [unpacked(packed(it).octets) for it in fields]
+    again = [unpacked(packed(it)[0]) for it in fields]
     assert again == fields
     assert [list(map(made_of, it)) for it in again] == [list(map(made_of, it)) for it in fields]
 

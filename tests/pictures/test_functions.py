@@ -42,7 +42,8 @@ from exifnorm_pictures.model.errors import Damaged
 from exifnorm_pictures.model.found import EXIF, NotRead
 from exifnorm_pictures.model.numbers import Numbers
 from exifnorm_pictures.model.problems import TEXTS
-from exifnorm_pictures.model.records import BlockRecord, PictureRecord, Side, Stamp, block_of_row
+from exifnorm_pictures.model.records import BlockRecord, PictureRecord, Side, Stamp
+from exifnorm_pictures.model.tables import block_of_row
 from exifnorm_pictures.model.verdicts import Verdict
 from exifnorm_pictures.refusals import mend
 from exifnorm_pictures.scan import index, moved, walk, workers

@@ -405,7 +405,7 @@ def test_digests_without_the_maker_note(one, other):
     """They are equal exactly if the other fields are."""
     one, other = (list({(it.directory, it.tag): it for it in some}.values()) for some in (one, other))
     others = [[it for it in some if (it.directory, it.tag) != MAKER_NOTE] for some in (one, other)]
-    digests = [packed(it).but_note for it in (one, other)]
+    digests = [packed(it)[1] for it in (one, other)]
     assert [it is None for it in digests] == [len(some) == len(rest) for some, rest in zip((one, other), others)]
     if None not in digests and _place(one) == _place(other):
         assert (digests[0] == digests[1]) is (others[0] == others[1])

@@ -21,7 +21,7 @@ from test_parts import FILES, JUMBF, RESOURCES, WHOLE_FILES
 from exifnorm_pictures import xmp as reading
 from exifnorm_pictures.extract import coded_picture, readers
 from exifnorm_pictures.fields.listing import exact
-from exifnorm_pictures.fields.packing import fields_of
+from exifnorm_pictures.fields.block_fields import fields_of
 from exifnorm_pictures.fields.xmp_properties import fields_of_statements
 from exifnorm_pictures.judge import judge
 from exifnorm_pictures.model import rest

@@ -30,7 +30,7 @@ from exifnorm_pictures.model.records import BlockRecord, PictureRecord, Stamp
 
 SIZES = (1000, 2000)
 TIMES, FEW = 2.3, 20  # hundreds of steps that aren't about the pictures
-FIELDS = packed([Field("main", "013b", "ASCII", 5, b"Anna\0"), Field("main", "0110", "ASCII", 5, b"D300\0")]).octets
+FIELDS = packed([Field("main", "013b", "ASCII", 5, b"Anna\0"), Field("main", "0110", "ASCII", 5, b"D300\0")])[0]
 # What SQL makes of each sixth pair of pictures, which are equal, so that their group rests on something else than their meaning
 BASES = (
     "exif = NULL",  # refused, the same bytes

@@ -13,7 +13,7 @@ from studio import needs
 from exifnorm_pictures import __file__ as PACKAGE
 
 # Millions over those of Python alone, in a process that finds all modules compiled; of another Python they differ
-MOST = {"--version": 50, "show a.jpg": 190, "compare a.jpg b.jpg": 215}
+MOST = {"--version": 50, "show a.jpg": 165, "compare a.jpg b.jpg": 170}
 IS_MEASURED = sys.implementation.name == "cpython" and sys.version_info[:2] == (3, 11) and platform.machine() == "x86_64"
 
 

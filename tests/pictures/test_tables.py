@@ -21,7 +21,8 @@ from exifnorm_pictures.fields.listing import numbers_text
 from exifnorm_pictures.fields.packing import packed
 from exifnorm_pictures.files.session import Session
 from exifnorm_pictures.model.found import EXIF, IPTC, NAMES, XMP, NotRead
-from exifnorm_pictures.model.records import PICTURES, BlockRecord, PictureRecord, Stamp
+from exifnorm_pictures.model.records import BlockRecord, PictureRecord, Stamp
+from exifnorm_pictures.model.tables import PICTURES
 from exifnorm_pictures.scan import looking
 from exifnorm_pictures.scan.walk import How
 from exifnorm_pictures.scan.looking import look
@@ -38,7 +39,7 @@ def digest(text):
 
 def block_of(kind, text):
     """A block that means a text; one that begins with ! is refused, and its bytes are the text."""
-    fields = packed([Field("main", "010f", "ASCII", len(text), text.encode())]).octets
+    fields = packed([Field("main", "010f", "ASCII", len(text), text.encode())])[0]
     if text.startswith("!"):
         return BlockRecord(kind, NAMES[kind], "somewhere", "own", "refused", None, text[1:], 7, 100, digest(text))
     return BlockRecord(kind, NAMES[kind], "somewhere", "own", "accepted", digest(text), None, None, 100, digest(text), fields=fields)

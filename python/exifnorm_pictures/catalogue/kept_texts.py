@@ -23,7 +23,7 @@ from ..fields.forms import Forms, forms_of, number_of
 from ..fields.labels import CODED, DAMAGE, DATED, OF_FIELDS, POSITION, UNCLEAR_POSITION, has_long
 from ..fields.listing import LONGEST_TEXT, is_rest
 from ..fields.names import group_name
-from ..fields.packing import BlockFields
+from ..fields.block_fields import BlockFields
 from ..fields.places import further_places, has_angles, is_angle, position_of, signed_degrees
 from ..fields.plain_numbers import iptc_time
 from ..fields.plain_texts import decoded

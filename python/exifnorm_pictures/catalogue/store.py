@@ -21,23 +21,13 @@ from typing import Any, Callable, Iterable, Iterator, Optional, Sequence, Type, 
 
 from exifnorm._named import NamedTuple
 
-from ..fields.packing import BlockFields, fields_of, joined, parted, with_kept_fields
+from ..fields.block_fields import BlockFields, fields_of, with_kept_fields
+from ..fields.packing import joined, parted
 from ..files import opening as files, signals
 from ..model.budgets import ROW_BYTES, ROW_NUMBER, SQL_STEPS
 from ..model.found import NAMES, OWN, NotRead
-from ..model.records import (
-    BLOCKS,
-    PICTURES,
-    BlockRecord,
-    PictureRecord,
-    Row,
-    Stamp,
-    Status,
-    block_of_row,
-    has_short,
-    not_read_of_row,
-    picture_of_row,
-)
+from ..model.records import BlockRecord, PictureRecord, Row, Stamp, Status, has_short, not_read_of_row
+from ..model.tables import BLOCKS, PICTURES, block_of_row, picture_of_row
 from ..model.errors import Damaged, Failure
 from ..model.problems import GONE, NO_BYTES
 from ..model.numbers import Numbers

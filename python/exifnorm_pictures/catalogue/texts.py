@@ -4,8 +4,8 @@ from __future__ import annotations
 
 from typing import NamedTuple, Sequence
 
+from ..fields.block_fields import BlockFields
 from ..fields.labels import LABEL_WORDS, LABELLED, Caption, not_kept, of_labelled, with_own
-from ..fields.packing import BlockFields
 from ..fields.character_sets import in_found_set
 from ..fields.field import Field
 from ..fields.listing import rest_of

@@ -2,11 +2,10 @@
 
 from __future__ import annotations
 
-from typing import TYPE_CHECKING, Iterable, Iterator, Sequence
+from exifnorm._hints import TYPE_CHECKING, Iterable, Iterator, Sequence
 
 from ..fields.choosing import Choice, UnknownField, hint
 from ..fields.field import Field
-from ..fields.packing import unpacked
 from ..model.found import other_name
 from ..model.texts import escaped, reason
 from .options import Fields
@@ -60,6 +59,8 @@ def refuse_unknown(choice: Choice, listings: Iterable[Listed]) -> None:
 
 def listings_of(*catalogues: Catalogue) -> Iterator[Listed]:
     """The fields of each block of some catalogues."""
+    from ..fields.packing import unpacked  # which takes long to import
+
     for catalogue in catalogues:
         for _, blocks in catalogue.packed_fields("name"):
             for name, packed in blocks:

@@ -10,6 +10,9 @@ import gc
 import importlib
 import os
 import sys
+from types import ModuleType
+
+from exifnorm._hints import TYPE_CHECKING, Sequence
 
 from ..files import signals
 from ..files.session import Session
@@ -17,13 +20,8 @@ from ..model import errors
 from ..model.budgets import OWN_PAGES, PROGRAM_SECONDS
 from .exit_codes import FAILURE, STOPPED, SUCCESS, USAGE
 
-TYPE_CHECKING = False  # that of `typing`, which takes long to import
 if TYPE_CHECKING:
     import argparse
-    from types import ModuleType
-    from typing import Sequence
-
-COLLECTED = 50_000  # objects after which Python looks for rings of objects: what a picture needs makes none, so mostly it looks in vain
 
 _TRIM_THRESHOLD, _MMAP_THRESHOLD = -1, -3  # of glibc's mallopt
 _VERSION = ["--version"[:length] for length in range(3, 10)]  # and its abbreviations
@@ -82,6 +80,8 @@ def _run(words: Sequence[str]) -> int:
 
             print(f"exifnorm-pictures {_calls.version()}")
             return SUCCESS
+        # so many objects later Python looks for rings of objects: modules and what a picture needs make hardly any
+        gc.set_threshold(50_000)
         import argparse  # which takes longer than to print the version, as the two modules do
 
         from .options import Least
@@ -96,7 +96,6 @@ def _run(words: Sequence[str]) -> int:
         goes_on = command in ("index", "nightly") or bool(getattr(arguments, "state", None))
         module = importlib.import_module(f".commands.{command.split()[-1]}", __package__)
         gc.freeze()
-        gc.set_threshold(COLLECTED)
         with session:
             status = _with_spreadsheet(module, arguments) if getattr(arguments, "xlsx", None) else int(module.run(arguments))
             return max(status, least.status)
@@ -112,12 +111,10 @@ def _run(words: Sequence[str]) -> int:
 
 def _with_spreadsheet(module: ModuleType, arguments: argparse.Namespace) -> int:
     """Runs a command whose table goes to a file."""
-    import argparse
-
     from . import sheets
 
     with sheets.written(arguments.xlsx, arguments.session) as sheet:
-        return int(module.run(argparse.Namespace(**{**vars(arguments), "csv": True, "sheet": sheet})))
+        return int(module.run(type(arguments)(**{**vars(arguments), "csv": True, "sheet": sheet})))
 
 
 def _is_expected(error: Exception) -> bool:

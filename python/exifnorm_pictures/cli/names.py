@@ -5,7 +5,8 @@ from __future__ import annotations
 import os
 import sys
 from itertools import chain, islice
-from typing import TYPE_CHECKING, BinaryIO, Iterator, Sequence
+
+from exifnorm._hints import TYPE_CHECKING, BinaryIO, Iterator, Sequence
 
 from ..files import opening
 from ..model.errors import WrongUse

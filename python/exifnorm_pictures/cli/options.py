@@ -3,9 +3,8 @@
 from __future__ import annotations
 
 import argparse
-from typing import TYPE_CHECKING, Sequence, TypeVar
 
-from exifnorm._named import NamedTuple
+from exifnorm._hints import TYPE_CHECKING, NamedTuple, Sequence, TypeVar
 
 from ..files.session import Session
 from ..model.budgets import PROGRAM_SECONDS

@@ -4,7 +4,6 @@ from __future__ import annotations
 
 import contextlib
 import functools
-import json
 import os
 import re
 import shutil
@@ -12,7 +11,8 @@ import sys
 import unicodedata
 from collections import Counter
 from itertools import islice, zip_longest
-from typing import TYPE_CHECKING, Any, Iterable, Iterator, Sequence, Union
+
+from exifnorm._hints import TYPE_CHECKING, Any, Iterable, Iterator, Sequence, Union
 
 from ..files import signals
 from ..model.budgets import ENCODED_CHARACTERS
@@ -26,6 +26,8 @@ from .exit_codes import DIFFERENCE, SUCCESS, UNKNOWN
 from .options import Output
 
 if TYPE_CHECKING:
+    import json
+
     from ..picture import Picture
     from .sheets import Sheet
 
@@ -102,7 +104,7 @@ def wrapped(text: str, wanted: int) -> list[str]:
     return [*lines, line]
 
 
-_BREAK = re.compile(r"(?<! ) (?! )")  # single blanks: more than one align a table
+_BREAK = r"(?<! ) (?! )"  # single blanks: more than one align a table
 
 
 def folded(text: str, screen: int) -> list[str]:
@@ -116,7 +118,7 @@ def folded(text: str, screen: int) -> list[str]:
         return [text]
     body, command, more = text.partition("exifnorm-pictures ")
     head, colon, rest = body.partition(": ")
-    words = [head + ":", *_BREAK.split(rest)] if colon and width(head) < screen else _BREAK.split(body)
+    words = [head + ":", *re.split(_BREAK, rest)] if colon and width(head) < screen else re.split(_BREAK, body)
     lines = [words[0]]
     for word in [*filter(None, words[1:]), *[command + more] * bool(command)]:
         if width(lines[-1]) + 1 + width(word) <= screen:
@@ -283,12 +285,15 @@ def local_time(when: str) -> str:
 _VERSIONS = {"changed": 2}
 
 
-_ENCODER = json.JSONEncoder(allow_nan=False)
-
-
 def line_of(command: str, record: str, members: Members) -> str:
     """An object as a line: `record` names what it is about, such as `picture` or `summary`."""
-    return _ENCODER.encode(_object(command, record, members))
+    return _encoder().encode(_object(command, record, members))
+
+
+def _encoder() -> json.JSONEncoder:
+    import json  # which takes long
+
+    return json.JSONEncoder(allow_nan=False)
 
 
 def print_object(command: str, record: str, members: Members) -> None:
@@ -296,12 +301,12 @@ def print_object(command: str, record: str, members: Members) -> None:
     encoded, since a value that can't be must fail before a part is printed."""
     whole = _object(command, record, members)
     if _is_long(whole):
-        for _ in _ENCODER.iterencode(whole):
+        for _ in _encoder().iterencode(whole):
             pass
-        sys.stdout.writelines(_ENCODER.iterencode(whole))
+        sys.stdout.writelines(_encoder().iterencode(whole))
         print()
     else:
-        print(_ENCODER.encode(whole))
+        print(_encoder().encode(whole))
 
 
 def answer(output: Output, command: str, record: str, members: Members, lines: Iterable[str]) -> None:

@@ -6,7 +6,8 @@ import argparse
 import itertools
 import re
 import sys
-from typing import IO, Any, Callable, Iterable, Iterator, NoReturn, Sequence
+
+from exifnorm._hints import IO, Any, Callable, Iterable, Iterator, NoReturn, Sequence
 
 from ..model.budgets import PROGRAM_SECONDS
 from ..model.texts import safe

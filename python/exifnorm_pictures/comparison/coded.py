@@ -3,7 +3,8 @@
 from __future__ import annotations
 
 from collections import Counter
-from typing import Sequence
+
+from exifnorm._hints import Sequence
 
 from ..model import rest
 from ..model.found import CUT, XMP_FILE

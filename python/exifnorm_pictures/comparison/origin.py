@@ -4,9 +4,7 @@ from __future__ import annotations
 
 import contextlib
 import exifnorm
-from typing import Callable, Optional, TYPE_CHECKING
-
-from exifnorm._named import NamedTuple
+from exifnorm._hints import TYPE_CHECKING, Callable, NamedTuple, Optional
 
 from ..extract.formats.jpeg import START
 from ..extract.formats.jpeg_segments import read_head

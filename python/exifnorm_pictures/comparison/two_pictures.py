@@ -4,12 +4,11 @@ from __future__ import annotations
 
 import contextlib
 import os
-from typing import Optional, Sequence
 
-from exifnorm._named import NamedTuple
+from exifnorm._hints import NamedTuple, Optional, Sequence
 
 from ..extract.formats.streams import digest_of_file
-from ..fields.packing import fields_of
+from ..fields.block_fields import fields_of
 from ..fields.choosing import EVERYTHING, Choice
 from ..fields.listing import LIMITS, MAKER_NOTE, Shown
 from ..fields.names import group_name
@@ -29,7 +28,6 @@ from .wording import FieldDifference, SideTexts, exact_side, plain_sides
 
 
 Heads = tuple[Optional[bytes], Optional[bytes]]
-NO_ANSWERS = origin.Answers(None, None)
 
 
 class FieldRow(NamedTuple):
@@ -95,7 +93,7 @@ def compare(
     values of MakerNotes. `heads` are the heads of two JPEGs, for the proved comparisons."""
     by_metadata = compared(Pair(os.path.basename(picture.path), picture, other, None), Sides(), session, choice)
     is_identical = bool(picture.sha256) and picture.sha256 == other.sha256
-    answers = NO_ANSWERS if choice else _proved(by_metadata, heads)
+    answers = origin.Answers(None, None) if choice else _proved(by_metadata, heads)
     return ComparedPair((picture, other), by_metadata, is_identical, bool(choice.only), answers)
 
 

@@ -5,9 +5,8 @@ from __future__ import annotations
 import re
 import unicodedata
 from itertools import compress, count
-from typing import Any, Optional, Sequence
 
-from exifnorm._named import NamedTuple
+from exifnorm._hints import Any, NamedTuple, Optional, Sequence
 
 from ..fields.field import Field
 from ..fields.listing import LONGEST_BYTES, OCTETS, counted_type, digest_of, order_of, shortened
@@ -179,8 +178,9 @@ _HIDDEN, _NOT_ASCII = rf"[{_ACCENTS}{_BLANKS}{_IGNORED}]|^ | \Z| (?= )", "[^\x00
 
 def look(text: str) -> str:
     """Equal of texts that look alike."""
-    shown = text if text.isascii() else re.sub(f"[{_IGNORED}]", "", unicodedata.normalize("NFC", text))
-    return " ".join(re.sub(f"[{_BLANKS}]", " ", shown).split())
+    if not text.isascii() or not text.isprintable():
+        text = re.sub(f"[{_BLANKS}]", " ", re.sub(f"[{_IGNORED}]", "", unicodedata.normalize("NFC", text)))
+    return " ".join(text.split())
 
 
 def numbered(text: str) -> str:

@@ -12,7 +12,8 @@ from ..catalogue.store import Catalogue, address, connect
 from ..catalogue.texts import texts_of
 from ..comparison.same.group import Keep, keeping, sentence_of
 from ..comparison.same.groups import Groups
-from ..fields.packing import BlockFields, divided, field_of, text_of, unpacked
+from ..fields.block_fields import BlockFields
+from ..fields.packing import divided, field_of, text_of, unpacked
 from ..fields.field import Field
 from ..fields.labels import Captions, names_camera, word_of
 from ..fields.listing import is_rest
@@ -24,7 +25,8 @@ from ..fields.typed import number_of
 from ..files import signals
 from ..files.session import Session
 from ..model import steps
-from ..model.records import BLOCKS, PICTURES, BlockRecord, PictureRecord, Row, block_of_row, not_read_of_row, picture_of_row
+from ..model.records import BlockRecord, PictureRecord, Row, not_read_of_row
+from ..model.tables import BLOCKS, PICTURES, block_of_row, picture_of_row
 from ..model.errors import Damaged, Failure
 from ..model.texts import path_members
 from ..scan.progress import Progress

@@ -11,9 +11,8 @@ from __future__ import annotations
 
 import contextlib
 import hashlib
-from typing import Callable, Iterable
 
-from exifnorm._named import NamedTuple
+from exifnorm._hints import Callable, Iterable, NamedTuple
 
 from ..files import opening
 from ..model import rest

@@ -10,12 +10,10 @@ import ctypes
 import os
 import re
 import select
-import shutil
 import signal
 import time
-from typing import TYPE_CHECKING, Callable
 
-from exifnorm._named import NamedTuple
+from exifnorm._hints import TYPE_CHECKING, Callable, NamedTuple
 
 from ..files import signals
 from ..model.budgets import OUTPUT, PROGRAM_BYTES
@@ -78,6 +76,8 @@ def is_there(program: str) -> bool:
 
 def _path_of(program: str) -> str | None:
     """Where PATH has a program. Its empty and relative parts are passed over: they may lead to a stranger's folder."""
+    import shutil  # which takes long
+
     return shutil.which(program, path=os.pathsep.join(filter(os.path.isabs, os.get_exec_path())))
 
 

@@ -11,9 +11,8 @@ from __future__ import annotations
 import hashlib
 import os
 import re
-from typing import Callable, Iterable, Iterator, Sequence
 
-from exifnorm._named import NamedTuple
+from exifnorm._hints import Callable, Iterable, Iterator, NamedTuple, Sequence
 
 from ..files import opening
 from ..model.budgets import LIMITS, PACKET_BYTES, XMP_BYTES

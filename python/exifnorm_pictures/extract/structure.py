@@ -8,9 +8,8 @@ from __future__ import annotations
 import struct
 from functools import cached_property
 from itertools import count
-from typing import Iterator, Optional
 
-from exifnorm._named import NamedTuple
+from exifnorm._hints import Iterator, NamedTuple, Optional
 
 from ..model.budgets import BLOCK_ENTRIES
 from ..model.texts import in_words

@@ -4,7 +4,8 @@ from __future__ import annotations
 
 import fnmatch
 import re
-from typing import Callable, Iterable, Iterator, Mapping, Sequence
+
+from exifnorm._hints import Callable, Iterable, Iterator, Mapping, Sequence
 
 from ..model.found import EXIF, IPTC, NAMES, XMP
 from ..model.errors import WrongUse
@@ -212,7 +213,7 @@ class Choice:
         """Whether a field counts. One that stands for more fields than are kept always does."""
         counts = self._known.get((where, key, block))
         if counts is None:
-            counts = self._decide(where, key, block)
+            counts = not self._patterns or self._decide(where, key, block)
             if len(self._known) < CACHED and len(key) < LONGEST_CACHED:
                 self._known[where, key, block] = counts
         return counts

@@ -2,7 +2,7 @@
 
 from __future__ import annotations
 
-from typing import TYPE_CHECKING, Any, ClassVar, NoReturn, Union
+from exifnorm._hints import TYPE_CHECKING, Any, ClassVar, NoReturn, Union
 
 from ..model.found import EXIF, NAMES
 from ..model.xmp_values import Long, XmpValue

@@ -4,7 +4,8 @@ from __future__ import annotations
 
 import functools
 import re
-from typing import Iterator, Sequence
+
+from exifnorm._hints import Iterator, Sequence
 
 from ..model.texts import grouped, safe
 from ..model.xmp_names import PREFIXES

@@ -4,7 +4,8 @@ from __future__ import annotations
 
 import hashlib
 import re
-from typing import Iterable, Iterator, Sequence
+
+from exifnorm._hints import Iterable, Iterator, Sequence
 
 from ..model import xmp_values
 from ..model.budgets import SHOWN_CHARACTERS, SHOWN_FIELDS

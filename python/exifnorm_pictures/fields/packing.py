@@ -16,12 +16,8 @@ import hashlib
 import json
 import re
 import zlib
-from functools import partial
-from typing import Any, Callable, Generic, Iterable, Iterator, Optional, Sequence, TypeVar
+from typing import Any, Callable, Iterable, Iterator, Optional, Sequence
 
-from exifnorm._named import NamedTuple
-
-from ..model.records import BlockRecord
 from ..model.errors import Damaged
 from ..model.budgets import FIELD_BYTES, KEPT_BYTES, LINES_BYTES, NESTED
 from ..model.xmp_values import Array, Literal, Long, Structure, Uri, XmpValue
@@ -119,17 +115,10 @@ _NOTE = f'["{MAKER_NOTE[0]}","{MAKER_NOTE[1]}",'  # as the MakerNote begins
 _quoted: Callable[[str], str] = json.encoder.encode_basestring_ascii  # type: ignore[attr-defined]  # typeshed lacks it
 
 
-class Packed(NamedTuple):
-    """The fields of a block as JSON."""
+def packed(fields: Sequence[Field]) -> tuple[bytes, str | None]:
+    """The fields of a block as JSON, and a digest of all but the MakerNote; None without one.
 
-    octets: bytes
-    but_note: str | None  # a digest of all but the MakerNote; None without one
-
-
-def packed(fields: Sequence[Field]) -> Packed:
-    """The fields as JSON.
-
-    >>> packed([Field("main", "010f", "ASCII", 4, b"abc\\0")]).octets
+    >>> packed([Field("main", "010f", "ASCII", 4, b"abc\\0")])[0]
     b'[["main","010f","ASCII",4,"abc"]]'
     """
     lines = [_json_of_field(*field._identity) for field in fields]
@@ -138,14 +127,14 @@ def packed(fields: Sequence[Field]) -> Packed:
     if len(octets) > FIELD_BYTES:
         octets = left_out(octets, len(lines))
     if _NOTE not in text:  # in a value a quote has a backslash before it
-        return Packed(octets, None)
+        return octets, None
     others = [line for line in lines if not line.startswith(_NOTE)]
-    return Packed(octets, hashlib.blake2b(",".join(others).encode("ascii"), digest_size=32).hexdigest())
+    return octets, hashlib.blake2b(",".join(others).encode("ascii"), digest_size=32).hexdigest()
 
 
 def left_out(octets: bytes, count: int = 0) -> bytes:
     """In place of the packed fields of a block, where these are too many bytes: their digest."""
-    return packed([Field("", "", "", count, Long(digest_of(octets), "too many to be kept"))]).octets
+    return packed([Field("", "", "", count, Long(digest_of(octets), "too many to be kept"))])[0]
 
 
 def _json_of_field(directory: str, tag: str, kind: str, count: int, content: Content) -> str:
@@ -196,7 +185,7 @@ def _json_of_property(value: XmpValue) -> str:
 def unpacked(octets: bytes) -> list[Field]:
     """The fields from the result of `packed`. Raises `Damaged`.
 
-    >>> unpacked(packed([Field("main", "010f", "ASCII", 4, b"abc\\0")]).octets)
+    >>> unpacked(packed([Field("main", "010f", "ASCII", 4, b"abc\\0")])[0])
     [Field(name='IFD0:Make', text='abc')]
     """
     if len(octets) > FIELD_BYTES:
@@ -339,59 +328,3 @@ def _list(value: Any) -> list[Any]:
     if not isinstance(value, list):
         raise ValueError("something else than a list")
     return value
-
-
-# The fields of a block, of one that was judged just now and of one that a catalogue has.
-
-Made = TypeVar("Made")
-BlockFields = tuple[BlockRecord, list[Field]]
-
-
-class Once(Generic[Made]):
-    """What is made once, when somebody asks for it."""
-
-    __slots__ = ("_make", "_made")
-
-    def __init__(self, make: Callable[[], Made]) -> None:
-        self._make: Callable[[], Made] | None = make
-
-    def all(self) -> Made:
-        """All of it."""
-        if self._make is not None:
-            self._made = self._make()
-            self._make = None  # with what it is made of, which is as long as it is
-        return self._made
-
-
-class Fields(Once["list[Field] | None"]):
-    """The fields of a normal form, of the statements of a packet, or of a block of a catalogue, in
-    the order of a listing; None if a catalogue doesn't have them."""
-
-    __slots__ = ()
-
-
-def _unpacked(texts: Once[_Cells], number: int) -> list[Field] | None:
-    text = texts.all()[number]
-    return unpacked(text) if text else None
-
-
-_FIELDS = BlockRecord._fields.index("fields")  # after which only what a catalogue doesn't have follows
-
-
-def with_kept_fields(blocks: Sequence[BlockRecord]) -> list[BlockRecord]:
-    """The blocks of a picture of a catalogue, of all its rows in their order, each with its own fields."""
-    texts = Once(partial(parted, [block.fields for block in blocks]))
-    each = [Fields(partial(_unpacked, texts, at)) for at in range(len(blocks))]
-    return [BlockRecord._make((*block[:_FIELDS], None, block.but_note, fields)) for block, fields in zip(blocks, each)]
-
-
-def known_fields(block: BlockRecord) -> list[Field] | None:
-    """The fields of a block; None of one that has no meaning, or in a catalogue that doesn't have them. Raises `Damaged`."""
-    if isinstance(block.fresh, Fields):
-        return block.fresh.all()
-    return unpacked(block.fields) if block.fields else None
-
-
-def fields_of(block: BlockRecord) -> list[Field]:
-    """The same, where those that aren't known count as none. Raises `Damaged`."""
-    return known_fields(block) or []

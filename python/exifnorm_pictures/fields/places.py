@@ -5,9 +5,8 @@ from __future__ import annotations
 import math
 import re
 from fractions import Fraction
-from typing import Iterable, Iterator, Sequence
 
-from exifnorm._named import NamedTuple
+from exifnorm._hints import Iterable, Iterator, NamedTuple, Sequence
 
 from ..model.xmp_values import Array, Long, LongStructure, Structure, texts_in
 from .field import Field

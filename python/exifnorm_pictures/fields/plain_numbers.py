@@ -6,7 +6,8 @@ Each function takes a field, and returns None if it has no plain form.
 from __future__ import annotations
 
 import re
-from typing import TYPE_CHECKING, Any, Callable, Union
+
+from exifnorm._hints import TYPE_CHECKING, Any, Callable, Union
 
 from ..model.xmp_values import Long
 from .field import Field

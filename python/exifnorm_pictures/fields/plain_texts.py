@@ -2,7 +2,7 @@
 
 from __future__ import annotations
 
-from typing import Callable
+from exifnorm._hints import Callable
 
 from ..model.texts import quoted
 from ..model.xmp_values import Long, simple_texts

@@ -15,7 +15,6 @@ from ..xmp.reading import SMALL, of_form
 from ..xmp.tree import MEMBER, Literal, Node, Statement, Statements, Uri, Value, key_of, unique
 from .field import Field
 from .listing import DIGITS
-from .packing import packed
 
 WHERE = "xmp"
 LONGEST_STRUCTURE = 400  # characters of the exact form of a value without texts that is kept whole
@@ -44,7 +43,9 @@ def packed_packet(packet: bytes, budget: Budget) -> tuple[str, bytes] | None:
 
 def line_of(octets: bytes) -> bytes:
     """The packed field of one property of a form."""
-    return packed(fields_of_statements(of_form(_HEAD.encode() + octets + _TAIL.encode()))).octets[1:-1]
+    from .packing import packed  # which takes long to import
+
+    return packed(fields_of_statements(of_form(_HEAD.encode() + octets + _TAIL.encode())))[0][1:-1]
 
 
 def _field(name: str, values: list[Value]) -> Field:

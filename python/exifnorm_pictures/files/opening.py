@@ -7,7 +7,8 @@ import errno
 import io
 import os
 import stat
-from typing import TYPE_CHECKING, BinaryIO, Iterator, TypeVar
+
+from exifnorm._hints import TYPE_CHECKING, BinaryIO, Iterator, TypeVar
 
 if TYPE_CHECKING:
     from _typeshed import WriteableBuffer

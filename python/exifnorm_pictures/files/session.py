@@ -10,18 +10,9 @@ import contextlib
 import os
 import time
 
+from exifnorm._hints import Any, Iterator
+
 from ..model.budgets import PROGRAM_SECONDS
-
-TYPE_CHECKING = False  # that of `typing`, which takes long to import
-if TYPE_CHECKING:
-    from typing import Iterator, Protocol
-
-    class Closes(Protocol):
-        """What is closed at the end of a session."""
-
-        def close(self) -> None:
-            """Ends it."""
-
 
 _LEAST = 0.001  # seconds of a clock that a call has if the earlier ones took all: a program that answers nothing then was too slow
 
@@ -40,7 +31,7 @@ class Session:
         self.seconds, self.programs = seconds, programs and hasattr(os, "fork")  # Windows has no limits for them
         self.debug = debug or os.environ.get("EXIFNORM_DEBUG") == "1"
         self.pid = os.getpid()
-        self.tool: Closes | None = None  # ExifTool's process, which `exiftool` starts at the first call
+        self.tool: Any = None  # ExifTool's process, which `exiftool` starts at the first call
         self._room, self._rooms = room, contextlib.ExitStack()
         self._folder: str | None = None
         self._asked, self._taken = b"", 0.0  # the file that programs were last asked about, and the seconds that they took for it

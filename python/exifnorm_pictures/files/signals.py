@@ -6,13 +6,11 @@ import contextlib
 import os
 import signal
 import sys
+from types import FrameType
+
+from exifnorm._hints import IO, Iterator
 
 from ..model.errors import Failure
-
-TYPE_CHECKING = False  # that of `typing`, which takes long to import
-if TYPE_CHECKING:
-    from types import FrameType
-    from typing import IO, Iterator
 
 SIGNALS = tuple(getattr(signal, it) for it in ("SIGTERM", "SIGHUP") if hasattr(signal, it))
 _HEEDED = (*SIGNALS, signal.SIGINT)

@@ -5,17 +5,17 @@ from __future__ import annotations
 import hashlib
 from functools import partial
 from itertools import islice, starmap
-from typing import Iterable
 
 import exifnorm
 from exifnorm._forms import _READ, Place, places
+from exifnorm._hints import Iterable
 from exifnorm._jpeg import digest_but_note
 from exifnorm._library import library
 
 from .. import xmp
 from ..extract import structure
 from ..fields import xmp_properties
-from ..fields.packing import Fields, Packed, is_short, left_out, packed
+from ..fields.block_fields import Once
 from ..fields.field import DeclaredField, Field, Identity
 from ..fields.listing import OCTETS, digest_of
 from ..model import steps
@@ -41,16 +41,18 @@ def fields_of_form(form: bytes) -> list[Field]:
     return list(starmap(DeclaredField if declared == [b"\x1b%G"] else Field, each))
 
 
-def packed_form(form: bytes) -> Packed:
+def packed_form(form: bytes) -> tuple[bytes, str | None]:
     """The fields of a normal form as JSON: by the extension module, unless it isn't there or leaves them to Python.
 
-    >>> packed_form(b"\\x1c\\x02\\x78\\x00\\x04Vase").octets
+    >>> packed_form(b"\\x1c\\x02\\x78\\x00\\x04Vase")[0]
     b'[["iptc","2:120","octets",4,"Vase"]]'
     """
+    from ..fields.packing import packed  # which takes long to import
+
     made = library().packed(form, hashlib.sha256)
     if not made or len(made[0]) > FIELD_BYTES:
         return packed(fields_of_form(form))
-    return Packed(made[0], digest_but_note(*made))
+    return made[0], digest_but_note(*made)
 
 
 def count(form: bytes, budget: Budget) -> None:
@@ -110,11 +112,11 @@ def _misplaced(kind: str, block: bytes) -> str:
     return "NoMarker" if kind == IPTC else "UnknownKind"
 
 
-def _kept(form: bytes, packs: bool, budget: Budget | None) -> tuple[bytes | None, str | None, Fields | None]:
+def _kept(form: bytes, packs: bool, budget: Budget | None) -> tuple[bytes | None, str | None, Once[list[Field]] | None]:
     """The fields of a normal form: packed with a digest of all but the MakerNote, or as they are made when somebody asks for them."""
     if budget:
         count(form, budget)
-    return (*packed_form(form), None) if packs else (None, None, Fields(partial(fields_of_form, form)))
+    return (*packed_form(form), None) if packs else (None, None, Once(partial(fields_of_form, form)))
 
 
 def _repaired(refused: BlockRecord, block: bytes, packs: bool, budget: Budget | None) -> BlockRecord:
@@ -193,6 +195,8 @@ def _within(block: BlockRecord, kept: int) -> BlockRecord:
         return block
     if kept > _ALL_KEPT_BYTES:
         return block._replace(fields=None)
+    from ..fields.packing import is_short, left_out
+
     return block if is_short(block.fields) else block._replace(fields=left_out(block.fields))
 
 
@@ -221,8 +225,7 @@ class _Extended:
 
 def _part(block: FoundBlock) -> str:
     """The part of the file that a block is in, by its name: `MPF picture 2`, and nothing for the picture itself."""
-    part: str = block.name.partition(" of ")[2]
-    return part
+    return str(block.name.partition(" of ")[2])
 
 
 def judge_packet(packet: bytes) -> BlockRecord:
@@ -252,7 +255,9 @@ def _judge_xmp(at: FoundBlock, extensions: xmp.Extensions, left: dict[str, bytes
     accepted = record(xmp.digest_of_statements(statements), None, None, length, octets)
     make = partial(xmp_properties.fields_of_statements, statements)
     if not packs:
-        return accepted._replace(fresh=Fields(make))
+        return accepted._replace(fresh=Once(make))
+    from ..fields.packing import packed
+
     fields, but_note = packed(make())
     return accepted._replace(fields=fields, but_note=but_note)
 

@@ -2,10 +2,10 @@
 
 from __future__ import annotations
 
-from typing import Callable, Sequence, TypeVar
+from exifnorm._hints import Callable, Sequence, TypeVar
 
 from ..fields.field import Field
-from ..fields.packing import fields_of
+from ..fields.block_fields import fields_of
 from ..model.found import NotRead
 from ..model.records import BlockRecord, PictureRecord
 

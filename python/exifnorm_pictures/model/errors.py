@@ -2,15 +2,11 @@
 
 from __future__ import annotations
 
-TYPE_CHECKING = False  # that of `typing`, which takes long to import
-if TYPE_CHECKING:
-    from .problems import Problem
-
 
 class Failure(Exception):
     """An error whose text is for people. It ends the command. Further arguments are lines below the text."""
 
-    problem: Problem | None = None  # that a picture has at which it happens, if it ends no command
+    problem: str | None = None  # that a picture has at which it happens, if it ends no command
 
     def __str__(self) -> str:
         return str(self.args[0]) if self.args else ""

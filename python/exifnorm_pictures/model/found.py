@@ -4,9 +4,8 @@ from __future__ import annotations
 
 import hashlib
 from collections import Counter
-from typing import Iterable, Sequence
 
-from exifnorm._named import NamedTuple
+from exifnorm._hints import Iterable, NamedTuple, Sequence
 
 from .budgets import BLOCKS, NOT_READ, Budget
 

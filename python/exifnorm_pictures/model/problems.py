@@ -2,20 +2,18 @@
 
 from __future__ import annotations
 
-from enum import Flag, auto
-
 from .texts import Word
 
 
-class Follows(Flag):
-    """What follows from a problem."""
+class Follows:
+    """What follows from a problem: bits."""
 
     NOTHING = 0
-    NO_FILE = auto()  # the name leads to no file, so nothing is compared
-    GONE = auto()  # the file was there at an earlier run
-    NO_BYTES = auto()  # nobody can read its bytes, so what was known of it stays
-    FAILED = auto()  # it should be readable, and isn't
-    AGAIN = auto()  # it may be solved although the file is the same: it is looked at again
+    NO_FILE = 1  # the name leads to no file, so nothing is compared
+    GONE = 2  # the file was there at an earlier run
+    NO_BYTES = 4  # nobody can read its bytes, so what was known of it stays
+    FAILED = 8  # it should be readable, and isn't
+    AGAIN = 16  # it may be solved although the file is the same: it is looked at again
 
 
 class Problem(Word):
@@ -23,7 +21,7 @@ class Problem(Word):
 
     text: str  # for people
     counted: str  # as counts have it: "5 at which a program failed"
-    follows: Follows
+    follows: int  # what does, as `Follows` has it
     program: str  # which solves it, once it is installed
 
     NO_PICTURE = ("NoPicture", "the file is no picture that ExifTool knows", "no picture", Follows.NOTHING)
@@ -96,7 +94,7 @@ class Problem(Word):
     )
 
 
-def _words(follows: Follows) -> tuple[str, ...]:
+def _words(follows: int) -> tuple[str, ...]:
     return tuple(str.__str__(problem) for problem in Problem if problem.follows & follows)
 
 

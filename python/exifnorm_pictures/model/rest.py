@@ -8,7 +8,8 @@ from __future__ import annotations
 
 import hashlib
 from functools import lru_cache
-from typing import Generic, Sequence, TypeVar
+
+from exifnorm._hints import Generic, Sequence, TypeVar
 
 MOST, LONGEST = 20, 200  # names of a file, and characters of a name
 FURTHER = "further parts"  # all others of a file with more names

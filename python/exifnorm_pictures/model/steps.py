@@ -2,11 +2,9 @@
 
 from __future__ import annotations
 
-import json
 from collections import Counter
-from typing import Sequence
 
-from exifnorm._named import NamedTuple
+from exifnorm._hints import NamedTuple, Sequence
 
 from .errors import Damaged
 
@@ -50,6 +48,8 @@ def words(steps: Sequence[Step]) -> str:
 
 def packed(steps: Sequence[Step]) -> str:
     """Some steps as a text for the catalogue."""
+    import json  # which takes long, and few pictures need
+
     return json.dumps([list(it) for it in steps])
 
 
@@ -61,6 +61,8 @@ def unpacked(text: str | None) -> Steps:
     """
     if not text:
         return ()
+    import json
+
     try:
         rows = json.loads(text)
         if not isinstance(rows, list) or not all(isinstance(it, list) and all(isinstance(one, str) for one in it) for it in rows):

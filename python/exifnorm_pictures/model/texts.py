@@ -10,7 +10,8 @@ import re
 from contextlib import suppress
 from enum import Enum
 from functools import lru_cache
-from typing import Any, Iterable, TypeVar
+
+from exifnorm._hints import Any, Iterable, TypeVar
 
 
 class Word(str, Enum):
@@ -177,10 +178,9 @@ def unescaped(text: str) -> str:
     >>> unescaped(escaped("a\nb\\c\u202e")) == "a\nb\\c\u202e", unescaped(r"a\x00b")
     (True, 'a\\x00b')
     """
-    return _ESCAPE.sub(lambda it: _CONTROLS.get(it[0]) or chr(int(it[1] or it[2] or it[3], 16)), text)
-
-
-_ESCAPE = re.compile(r"\\(?:x(?!00)([0-7][0-9a-f])|u([0-9a-f]{4})|U(000[0-9a-f]{5})|[nrt\\])")
+    return re.compile(r"\\(?:x(?!00)([0-7][0-9a-f])|u([0-9a-f]{4})|U(000[0-9a-f]{5})|[nrt\\])").sub(
+        lambda it: _CONTROLS.get(it[0]) or chr(int(it[1] or it[2] or it[3], 16)), text
+    )
 
 
 def _escaped_but(text: str, kept: str) -> str:

@@ -7,9 +7,8 @@ from __future__ import annotations
 
 import functools
 from collections import Counter
-from typing import Iterable, Mapping, Sequence
 
-from exifnorm._named import NamedTuple
+from exifnorm._hints import Iterable, Mapping, NamedTuple, Sequence
 
 from .found import EXIF, IPTC, NAMES, XMP, NotRead, cut, damage
 from .texts import Result

@@ -4,14 +4,12 @@ from __future__ import annotations
 
 import re
 from operator import itemgetter
-from typing import Any, Iterator, Sequence, Union
 
-from exifnorm._named import NamedTuple
+from exifnorm._hints import Any, Iterator, NamedTuple, Sequence, Union
 
 from .texts import escaped, quoted
 
 VALUE = "rdf:value"  # the text itself, in a structure with what qualifies it
-_MEMBER = re.compile(r"rdf:_([0-9]+)\Z")
 
 
 class Literal(NamedTuple):
@@ -143,7 +141,7 @@ def _chosen(array: Array) -> Sequence[XmpValue]:
 def _qualified(structure: Structure) -> Sequence[XmpValue]:
     """The members of a list that has qualifiers, or the text that has some; none of another
     structure."""
-    matches = [(_MEMBER.match(name), it) for name, it in structure.members]
+    matches = [(re.match(r"rdf:_([0-9]+)\Z", name), it) for name, it in structure.members]
     numbered = [(int(match[1]), it) for match, it in matches if match]
     if numbered:
         return [it for _, it in sorted(numbered, key=itemgetter(0))]

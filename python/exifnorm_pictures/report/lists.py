@@ -21,7 +21,8 @@ from ..comparison.same import groups
 from ..comparison.same.group import Group, Keep, keeping, sentence_of
 from ..fields.labels import COMMENT, LABEL_WORDS
 from ..model.found import STANDARDS, each_kind
-from ..model.records import PictureRecord, has, has_short, picture_of_row
+from ..model.records import PictureRecord, has, has_short
+from ..model.tables import picture_of_row
 from ..model.problems import NOT_THERE, Problem
 from ..model.texts import grouped, kind_of_part
 from .contents import About, Entry, chosen, chunks, refused, shortened

@@ -12,9 +12,8 @@ from collections import Counter
 from datetime import datetime, timezone
 from itertools import chain, islice
 from operator import itemgetter
-from typing import Callable, Iterable, Iterator, Sequence
 
-from exifnorm._named import NamedTuple
+from exifnorm._hints import Callable, Iterable, Iterator, NamedTuple, Sequence
 
 from ..catalogue.store import Catalogue, Known
 from ..extract import programs
@@ -207,9 +206,8 @@ def _unfinished(catalogue: Catalogue) -> Iterator[int]:
 def _is_unchanged(file: FoundFile, known: Known, how: How) -> bool:
     if known.stamp is None or file.stamp is None or (how.pixels and known.coded_picture is None):
         return False
-    if known.sidecars != (marks(file.path, file.sidecars) if file.sidecars else ""):
-        return False
-    return is_as_before(known.stamp, file.stamp) and not _worth_another(known.problem)
+    has_its_sidecars = known.sidecars == (marks(file.path, file.sidecars) if file.sidecars else "")
+    return has_its_sidecars and is_as_before(known.stamp, file.stamp) and not _worth_another(known.problem)
 
 
 def _worth_another(problem: str | None) -> bool:

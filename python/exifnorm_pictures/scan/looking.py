@@ -3,8 +3,8 @@
 from __future__ import annotations
 
 import time
-from typing import Iterable, Iterator, Sequence
 
+from exifnorm._hints import Iterable, Iterator, Sequence
 from exifnorm import LibraryMissing
 from exifnorm._jpeg import digest_but_note, recording
 from exifnorm._library import library

@@ -9,9 +9,8 @@ import os
 import re
 from collections import Counter
 from operator import itemgetter
-from typing import Iterator, Sequence
 
-from exifnorm._named import NamedTuple
+from exifnorm._hints import Iterator, NamedTuple, Sequence
 
 from ..catalogue import shards
 from ..catalogue.store import NUMBERS, Catalogue, roll_back

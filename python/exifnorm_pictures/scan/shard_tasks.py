@@ -126,8 +126,7 @@ class Parts:
     def _outcome(self, task: Any, shard: Shard) -> Outcome | None:
         """The outcome of a task; None if its part is to be given to a worker once more, which goes on from what is committed."""
         try:
-            outcome: Outcome = task.result()
-            return outcome
+            return task.result()  # type: ignore[no-any-return]
         except KilledWorker:
             self.deaths[shard.name] += 1
             return None if self.deaths[shard.name] < TRIES else not_looked_at(shard, Problem.TOOL_FAILED, _DIED, self.patterns)

@@ -10,9 +10,8 @@ import stat
 import sys
 from collections import Counter
 from fnmatch import translate
-from typing import Callable, Collection, Iterable, Iterator, Sequence, Union, cast
 
-from exifnorm._named import NamedTuple
+from exifnorm._hints import Callable, Collection, Iterable, Iterator, NamedTuple, Sequence, Union, cast
 
 from ..extract.sidecars import Folder, Folders, Sidecar
 from ..files.session import processors

@@ -4,8 +4,8 @@ from __future__ import annotations
 
 import hashlib
 from itertools import chain
-from typing import Mapping
 
+from exifnorm._hints import Mapping
 from exifnorm import XmpRefused
 from exifnorm._properties import Makers, made_of_form
 from exifnorm._xmp import form_of

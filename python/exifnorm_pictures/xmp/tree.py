@@ -4,9 +4,8 @@ from __future__ import annotations
 
 import hashlib
 import re
-from typing import Union
 
-from exifnorm._named import NamedTuple
+from exifnorm._hints import NamedTuple, Union
 
 from ..model.budgets import LANGUAGE, LIMITS, NAMESPACE, NESTED, PACKET_BYTES, XMP_ATTRIBUTES, XMP_BYTES, XMP_TAGS, Budget, TooLong, TooMuch
 from ..model.xmp_values import Literal as Literal, Uri as Uri

@@ -5,14 +5,15 @@ from __future__ import annotations
 import argparse
 import os
 import shutil
-from typing import Iterator, Sequence
+
+from exifnorm._hints import Iterator, Sequence
 
 from ...comparison.coded import Coded, coded_result
 from ...comparison.two_pictures import MORE, ComparedPair, FieldRow, compare, read, rows_of, with_position
 from ...comparison.wording import NONE, tag_of
 from ...fields.choosing import Choice, lines, members_of
 from ...fields.field import Field
-from ...fields.packing import fields_of
+from ...fields.block_fields import fields_of
 from ...files.opening import held
 from ...model.budgets import COMPARED_FIELDS
 from ...model.found import XMP_FILE, other_name

@@ -12,11 +12,12 @@ from itertools import chain
 from typing import Callable, Hashable, Iterable, Iterator, NamedTuple, Sequence, TypeVar
 
 from ...catalogue.store import BLOCK_COLUMNS, PICTURE_COLUMNS, Catalogue, NoCatalogue, address, check_schema, connect, unlike
-from ...fields.packing import fields_of, with_kept_fields
+from ...fields.block_fields import fields_of, with_kept_fields
 from ...fields.field import Field
 from ...files import signals
 from ...judge.sides import AFTER, BEFORE, Sides
-from ...model.records import PICTURES, BlockRecord, PictureRecord, Row, block_of_row, not_read_of_row, picture_of_row
+from ...model.records import BlockRecord, PictureRecord, Row, not_read_of_row
+from ...model.tables import PICTURES, block_of_row, picture_of_row
 from ...model.errors import Damaged
 from ...model.found import NotRead
 from ...model.problems import NOT_THERE

@@ -7,9 +7,8 @@ import hashlib
 import heapq
 from collections import Counter
 from enum import IntEnum
-from typing import TYPE_CHECKING, Iterable, Iterator, Optional, Sequence
 
-from exifnorm._named import NamedTuple
+from exifnorm._hints import TYPE_CHECKING, Iterable, Iterator, NamedTuple, Optional, Sequence
 
 from ...fields.choosing import EVERYTHING, Choice
 from ...fields.listing import MAKER_NOTE

@@ -13,7 +13,8 @@ from ...fields.listing import MAKER_NOTE, exact
 from ...fields.packing import unpacked
 from ...model import steps
 from ...model.found import EXIF, KINDS, other_name
-from ...model.records import PICTURES, Row, Status, has, joined, kind_of
+from ...model.records import Row, Status, has, joined, kind_of
+from ...model.tables import PICTURES
 from ..wording import equal_form
 
 _BATCH = 1000  # rows that are written at once

@@ -15,10 +15,11 @@ from typing import Iterable, Iterator, NamedTuple, Sequence
 from ...catalogue.store import PICTURE_COLUMNS, Catalogue
 from ...extract.sidecars import Folders
 from ...fields.choosing import EVERYTHING, Choice, UnknownField
-from ...fields.packing import known_fields
+from ...fields.block_fields import known_fields
 from ...model import steps
 from ...model.found import BROKEN, EXIF, IPTC, KINDS, REST, WITHOUT_IPTC, each_kind, other_name
-from ...model.records import PictureRecord, Stamp, is_marked_as, picture_of_row
+from ...model.records import PictureRecord, Stamp, is_marked_as
+from ...model.tables import picture_of_row
 from ...model.problems import NOT_THERE
 from ...model.texts import grouped, pictures_in_words
 from .group import OTHERS, Basis, Files, Group, Link, Shared

@@ -46,9 +46,7 @@ def one_block(structures: dict[bytes, bytes], budget: Budget) -> bytes | None:
 
     They can't be one if they have several byte orders, further directories, pointers to what is in another box, or damage.
     """
-    if CMT1 not in structures or len({structures[it][:4] for it in structures if it != CMT3}) > 1:
-        return None
-    if structures[CMT1][:4] not in HEADS:
+    if CMT1 not in structures or len({structures[it][:4] for it in structures if it != CMT3}) > 1 or structures[CMT1][:4] not in HEADS:
         return None
     try:
         return _Joined(structures, budget).block()

@@ -9,10 +9,9 @@ from __future__ import annotations
 import hashlib
 import re
 import struct
-from typing import Iterator
 
+from exifnorm._hints import Iterator, NamedTuple
 from exifnorm._jpeg import RESOURCE_REST, rest_parts
-from exifnorm._named import NamedTuple
 
 from ...fields.xmp_properties import line_of
 from ...model.budgets import RESOURCES, SCAN_SEGMENTS, Budget, TooMuch, budget_of
@@ -246,11 +245,6 @@ class Pieces:
 
 START = b"\xff\xd8\xff"
 NO_END_MARK = f"{CUT}before the end mark of its picture"  # which a decoder may still read wholly
-# Some writers put up to four bytes before the word, or write it in another way; ExifTool reads these as well.
-_EXIF_LIKE = re.compile(rb".{0,4}?Exif\0.", re.I | re.S)
-# ExifTool also reads a packet under a mark that only begins like that of XMP.
-_XMP_LIKE = re.compile(rb"(?:http|XMP\0).{0,60}?(?=<(?:\?xpacket|x:xmpmeta|rdf:RDF)\b)", re.S)
-_META = (b"Meta\0\0", b"META\0\0", b"Exif\0\0")  # Kodak's APP3, which has the structure of an Exif block
 
 
 def read(stream: Stream, whole: bool = False) -> Blocks:
@@ -377,20 +371,23 @@ WHERE = {XMP: "APP1 segment at ", EXIF: "APP1 segment at ", IPTC: "Photoshop res
 # Marks that the library doesn't know, in their segments, and what these have. All but that of an
 # index are lenient forms.
 _MARKS = (
-    (APP1, _EXIF_LIKE, EXIF),
-    (APP1, _XMP_LIKE, XMP),
-    (APP13, re.compile(rb"Adobe_Photoshop2\.5:.{0,8}", re.S), _RESOURCES),  # of an older Photoshop
-    (APP2, re.compile(re.escape(INDEX_HEAD)), _INDEX),
+    # Some writers put up to four bytes before the word, or write it in another way; ExifTool reads these as well
+    (APP1, rb"(?is).{0,4}?Exif\0.", EXIF),
+    # ExifTool also reads a packet under a mark that only begins like that of XMP
+    (APP1, rb"(?s)(?:http|XMP\0).{0,60}?(?=<(?:\?xpacket|x:xmpmeta|rdf:RDF)\b)", XMP),
+    (APP13, rb"(?s)Adobe_Photoshop2\.5:.{0,8}", _RESOURCES),  # of an older Photoshop
+    (APP2, INDEX_HEAD, _INDEX),
 )
 
 
 def _kind_of(marker: int, data: bytes) -> tuple[str, int]:
     """What a segment has whose mark the library doesn't know, and the length of the mark; or its name."""
     for of, mark, kind in _MARKS:
-        found = mark.match(data) if of == marker else None
+        found = re.match(mark, data) if of == marker else None
         if found:
             return kind, found.end()
-    if marker == APP3 and data.startswith(_META):
+    # Kodak's APP3, which has the structure of an Exif block
+    if marker == APP3 and data.startswith((b"Meta\0\0", b"META\0\0", b"Exif\0\0")):
         return "APP3 segment Meta", 0
     name = f"APP{marker - APP0} segment"
     return rest_of(marker, data) or (f"{name} of an unknown kind" if marker in (APP1, APP13) else f"{name} {word(data)}".rstrip()), 0

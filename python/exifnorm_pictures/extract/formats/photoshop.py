@@ -7,7 +7,8 @@ an even length (Adobe Photoshop File Formats Specification, "Image Resource Bloc
 from __future__ import annotations
 
 from itertools import chain
-from typing import Iterator, Sequence
+
+from exifnorm._hints import Iterator, Sequence
 
 import exifnorm
 

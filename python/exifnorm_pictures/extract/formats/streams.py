@@ -10,9 +10,8 @@ from collections import deque
 from heapq import heappop, heappush
 from itertools import accumulate
 from operator import itemgetter, le
-from typing import Callable, Iterable, Iterator, Protocol, Sequence
 
-from exifnorm._named import NamedTuple
+from exifnorm._hints import Callable, Iterable, Iterator, NamedTuple, Protocol, Sequence
 
 from ...files import opening
 from ...model.budgets import BYTES_READ, HOLES, Budget, budget_of

@@ -9,9 +9,8 @@ from __future__ import annotations
 
 import re
 import struct
-from typing import Callable
 
-from exifnorm._named import NamedTuple
+from exifnorm._hints import Callable, NamedTuple
 
 from ...model.budgets import RESOURCE_BYTES, RESOURCES, budget_of
 from ...model.found import IPTC, XMP, Blocks, Broken, NotRead
