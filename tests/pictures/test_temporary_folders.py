@@ -3,6 +3,7 @@
 import fcntl
 import gc
 import os
+import shutil
 import stat
 import tempfile
 from unittest import mock
@@ -74,6 +75,27 @@ class Folders(WithPictures):
             with tempdir.room():
                 self.assertFalse(os.path.exists(killed))
             self.assertEqual(sorted(os.listdir(alive)), ["data", "lock"])
+
+    def test_a_run_that_begins_while_another_one_looks(self):
+        """Once it has its lock, its folder stays; before that it may go, and the run makes another one."""
+        for call, is_open in (("listdir", False), ("close", True)):
+            folder, real, begun = tempfile.mkdtemp(prefix=tempdir.PREFIX, dir=self.folder), getattr(os, call), []
+            new = os.open(os.path.join(folder, "new"), os.O_RDWR | os.O_CREAT) if is_open else None
+
+            def meanwhile(*words):
+                answer = real(*words)
+                if os.path.isdir(folder) and not begun:
+                    begun.append(new or os.open(os.path.join(folder, "new"), os.O_RDWR | os.O_CREAT))
+                    fcntl.flock(begun[0], fcntl.LOCK_EX)
+                    os.write(begun[0], self.lock)
+                    os.rename(os.path.join(folder, "new"), os.path.join(folder, "lock"))
+                return answer
+
+            with mock.patch.object(tempdir.os, call, meanwhile), tempdir.room():
+                pass
+            self.assertEqual(os.listdir(folder) if begun else os.path.isdir(folder), ["lock"] if begun else False, call)
+            shutil.rmtree(folder, ignore_errors=True)
+            os.close(begun[0] if begun else new)
 
     def test_no_other_folder_is_removed(self):
         """Whatever of a folder of ours it has: the user may keep the only copies of pictures there."""

@@ -119,13 +119,13 @@ def _remove_dead(folder: bytes, mark: str) -> None:
     with contextlib.ExitStack() as held:
         number = os.open(folder, os.O_DIRECTORY | os.O_NOFOLLOW)
         held.callback(os.close, number)
-        with contextlib.suppress(FileNotFoundError):  # a run was killed before it had a list, or while it removed the folder
-            lock = os.open(mark, os.O_NOFOLLOW | os.O_NONBLOCK, dir_fd=number)
-            held.callback(os.close, lock)
-            fcntl.flock(lock, fcntl.LOCK_SH | fcntl.LOCK_NB)  # as of a file in atomic.py
         with os.scandir(number) as entries:
             is_ours = os.fstat(number).st_uid == os.geteuid() and all(_is_ours(entry, mark) for entry in entries)
         if is_ours:
+            # A run was killed before it had a list, or while it removed the folder; or it lives, and waits for the list
+            lock = os.open(mark, os.O_CREAT | os.O_NOFOLLOW | os.O_NONBLOCK, dir_fd=number)
+            held.callback(os.close, lock)
+            fcntl.flock(lock, fcntl.LOCK_SH | fcntl.LOCK_NB)  # as of a file in atomic.py
             _remove(folder, mark)
 
 

@@ -68,27 +68,21 @@ def _remove(folder: str) -> None:
 
 
 def _remove_dead(entry: "os.DirEntry[str]") -> None:
-    """Removes the folder of a run that was killed: one of this user with the rights that mkdtemp gives, and with a lock that no process has."""
+    """Removes the folder of a run that was killed: one of this user with the rights that mkdtemp gives, and with our lock, which no process
+    has; or with none, as before it has a lock, and after. A run that makes its lock just now waits, and then makes another folder."""
     status = entry.stat(follow_symlinks=False)
-    is_own = stat.S_ISDIR(status.st_mode) and stat.S_IMODE(status.st_mode) == 0o700 and status.st_uid == os.geteuid()
-    if is_own and _is_dead(entry.path):
-        _remove(entry.path)
-
-
-def _is_dead(folder: str) -> bool:
-    """Whether a folder has our lock file, and no process has locked it; or has no file besides, as before it has a lock, and after."""
-    names = os.listdir(folder)
+    if not stat.S_ISDIR(status.st_mode) or stat.S_IMODE(status.st_mode) != 0o700 or status.st_uid != os.geteuid():
+        return
+    names = os.listdir(entry.path)
     if not names:
-        return True
+        os.rmdir(entry.path)  # which fails once there is a lock
+        return
     name = _NEW if names == [_NEW] else _LOCK
-    lock = os.open(os.path.join(folder, name), os.O_RDWR | os.O_NOFOLLOW | os.O_NONBLOCK)
+    lock = os.open(os.path.join(entry.path, name), os.O_RDWR | os.O_NOFOLLOW | os.O_NONBLOCK)
     try:
         mark = os.read(lock, len(_MARK) + 1) if stat.S_ISREG(os.fstat(lock).st_mode) else None
-        if mark != _MARK and (mark or name == _LOCK):
-            return False
-        fcntl.flock(lock, fcntl.LOCK_EX | fcntl.LOCK_NB)
-    except OSError:
-        return False
+        if mark == _MARK or (mark == b"" and name == _NEW):
+            fcntl.flock(lock, fcntl.LOCK_EX | fcntl.LOCK_NB)
+            _remove(entry.path)
     finally:
         os.close(lock)
-    return True
