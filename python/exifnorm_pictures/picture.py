@@ -22,7 +22,7 @@ from .model.budgets import TooMuch
 from .model.found import EXIF, IPTC, NAMES, STANDARDS, XMP, Blocks, cut, not_known
 from .model.records import BlockRecord, PictureRecord
 from .model.steps import loses
-from .model.texts import Members, path_members
+from .model.texts import Members, grouped, path_members
 
 if TYPE_CHECKING:
     from datetime import datetime
@@ -528,11 +528,7 @@ def _named_in(blocks: Iterable[list[Field]]) -> _ByName:
 
 def _spelled(fields: Sequence[Field]) -> _ByName:
     """Fields by all spellings of their names."""
-    names: _ByName = {}
-    for field in fields:
-        for spelling in spellings(field.directory, field.tag):
-            names.setdefault(spelling, []).append(field)
-    return names
+    return grouped((spelling, field) for field in fields for spelling in spellings(field.directory, field.tag))
 
 
 def _text(name: str) -> str:

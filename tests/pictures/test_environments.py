@@ -27,6 +27,7 @@ MORE = (
     "report c --since old --rules rules --html page.html --no-look",
     "report c --since old --html pages/ --no-look",
     "index p --catalogue new --jobs 2 --pixels --sidecars",
+    "index p p/a --catalogue both",
 )
 ONCE = [lines[0] for command, lines in LINES.items() if command != "mend"]
 PROGRESS = re.compile(r"\d+ of \d+ pictures, .* a second$")

@@ -371,6 +371,14 @@ def address(name: str, mode: str = "ro") -> str:
     return f"file:{''.join(chr(it) if it in _PLAIN else f'%{it:02X}' for it in octets)}?mode={mode}"
 
 
+def added(base: sqlite3.Connection, insert: str, rows: Iterable[Row]) -> int:
+    """How many rows a statement adds. A cursor doesn't count those of INSERT where the locale is Turkish: Python compares the
+    word by the small letters of the locale, in which that of I is another one."""
+    known = base.total_changes
+    base.executemany(insert, rows)
+    return base.total_changes - known
+
+
 def connect(name: str, uri: bool = True) -> sqlite3.Connection:
     """A connection on which a foreign file can neither run anything nor keep SQLite from ending."""
     base = sqlite3.connect(name, timeout=60, isolation_level=None, uri=uri)

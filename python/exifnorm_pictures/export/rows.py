@@ -261,32 +261,24 @@ class Tables:
             self._put("INSERT INTO chosen VALUES (?)", catalogue.rows(f"SELECT path FROM {only}"))
         for file in catalogue.files:
             self._base.execute("ATTACH ? AS catalogue", (address(file),))
-            copied = self._base.execute(_PICTURES.format(PICTURES.listed, of_pictures)).rowcount
-            self.counts["pictures"] = self.counts.get("pictures", 0) + copied
+            self._base.execute(_PICTURES.format(PICTURES.listed, of_pictures))
             self._base.execute(_BLOCKS.format(BLOCKS.listed, of_blocks))
             self._base.execute("DETACH catalogue")
+        (self.counts["pictures"],) = self._base.execute("SELECT count(*) FROM main.pictures").fetchone()
         self._base.execute("BEGIN")
 
-    def add_all(self, table: str, rows: Iterable[Row]) -> None:
-        """Adds a series of rows to a table, of which a hundred at a time are made."""
+    def add(self, table: str, rows: Iterable[Row]) -> None:
+        """Adds rows to a table, of which a hundred at a time are made."""
         left = iter(rows)
-        while several := list(islice(left, 100)):
-            self.add(table, several)
-
-    def add(self, table: str, rows: list[Row]) -> None:
-        """Adds a few rows to a table."""
-        if not rows:
-            return
-        rows = storable(rows)
-        self.counts[table] = self.counts.get(table, 0) + len(rows)
-        statement = f"INSERT INTO {table} VALUES (?{', ?' * (len(rows[0]) - 1)})"
-        try:
-            self._put(statement, rows)
-        except (
-            UnicodeEncodeError
-        ):  # halves of characters in one of the rows, which a damaged catalogue may have; those before it are written
-            whole = [[it.encode("utf-8", "backslashreplace").decode() if isinstance(it, str) else it for it in row] for row in rows]
-            self._put(statement.replace("INSERT", "INSERT OR REPLACE", 1), whole)
+        while several := storable(list(islice(left, 100))):
+            self.counts[table] = self.counts.get(table, 0) + len(several)
+            statement = f"INSERT INTO {table} VALUES (?{', ?' * (len(several[0]) - 1)})"
+            try:
+                self._put(statement, several)
+            # halves of characters, which a damaged catalogue may have. The rows before the one with them are written
+            except UnicodeEncodeError:
+                whole = [[it.encode("utf-8", "backslashreplace").decode() if isinstance(it, str) else it for it in row] for row in several]
+                self._put(statement.replace("INSERT", "INSERT OR REPLACE", 1), whole)
 
     def finish(self) -> None:
         """Writes what is left, and the indexes."""
@@ -369,8 +361,8 @@ class Export:
         """Adds each picture, and then the groups. Prints its progress, unless it is quiet."""
         where = f" WHERE picture IN (SELECT id FROM pictures WHERE path IN {self.only})" if self.only else ""
         self._copy()
-        self.tables.add_all("not_read", self.catalogue.rows(f"SELECT picture, number, what, digest FROM not_read{where}", (), _part_row))
-        progress = Progress(self.tables.counts.get("pictures", 0), quiet=quiet)
+        self.tables.add("not_read", self.catalogue.rows(f"SELECT picture, number, what, digest FROM not_read{where}", (), _part_row))
+        progress = Progress(self.tables.counts["pictures"], quiet=quiet)
         for count, (picture, rows) in enumerate(self.catalogue.packed_fields("kind, name, note", where), 1):
             self._picture(picture, rows)
             progress.done(count)
@@ -379,7 +371,7 @@ class Export:
             keeps = keeping(group) if self.session else {}
             about = (number, group.basis, sentence_of(group))
             kept = ((it.id, keeps.get(it.id, Keep())) for it in group.members)
-            self.tables.add_all("groups", ((*about, number, it.keep, it.note() or None) for number, it in kept))
+            self.tables.add("groups", ((*about, number, it.keep, it.note() or None) for number, it in kept))
 
     def _copy(self) -> None:
         """Adds pictures and blocks. Raises `NoCatalogue` if one is damaged."""
@@ -397,7 +389,7 @@ class Export:
         """Adds what the blocks of a picture have."""
         with self.catalogue.guarded():
             fields = [self._fields.of_block(row[-1]) for row in rows_of_blocks]
-        self.tables.add_all(
+        self.tables.add(
             "fields",
             ((picture, number, at, *row.cells) for number, rows in enumerate(fields) for at, row in enumerate(rows)),
         )

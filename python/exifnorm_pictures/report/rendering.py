@@ -13,6 +13,7 @@ from pathlib import Path
 from typing import TYPE_CHECKING, Any, Callable, Iterable, Sequence
 
 from ..catalogue.checking import Checked
+from ..catalogue.store import added
 from ..comparison.changed.edits import head_of, steps_of
 from ..comparison.same.groups import of_notes
 from ..fields.choosing import of_maker_notes
@@ -200,7 +201,7 @@ class Marks:
 
     def shown(self, paths: Iterable[bytes]) -> int:
         """Notes that pictures were shown. Returns how many of them were not before."""
-        return self._base.executemany("INSERT OR IGNORE INTO marks VALUES (?, '', '')", ((path,) for path in paths)).rowcount
+        return added(self._base, "INSERT OR IGNORE INTO marks VALUES (?, '', '')", ((path,) for path in paths))
 
     def of(self, path: bytes) -> list[tuple[str, str]]:
         """What the lists say of a picture, each with its place."""

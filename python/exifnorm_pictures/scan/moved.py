@@ -8,7 +8,7 @@ import sqlite3
 from collections import Counter
 from typing import Any, Callable, Iterator, NamedTuple, Sequence
 
-from ..catalogue.store import Catalogue
+from ..catalogue.store import Catalogue, added
 from ..model.records import PictureRecord
 from ..model.problems import Problem
 from ..model.texts import whole_path
@@ -244,7 +244,7 @@ class Paths:
 
     def add(self, path: bytes) -> bool:
         """Adds a path; whether it wasn't there."""
-        return self._base.execute("INSERT OR IGNORE INTO paths VALUES (?)", (path,)).rowcount > 0
+        return added(self._base, "INSERT OR IGNORE INTO paths VALUES (?)", [(path,)]) > 0
 
     def __contains__(self, path: bytes) -> bool:
         if not self._opened:
