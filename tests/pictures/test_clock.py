@@ -373,7 +373,7 @@ def test_words_on_standard_error_stop_no_program():
 
 
 def tool_path(name):
-    return programs.shutil.which(name) or pytest.skip(f"{name} isn't installed")
+    return shutil.which(name) or pytest.skip(f"{name} isn't installed")
 
 
 def test_what_explain_tries_has_the_time_of_one_call(called, folder, monkeypatch):

@@ -515,7 +515,8 @@ def test_a_list_that_another_run_writes_between_two_looks(folders, called_lines,
     look = os.listdir
 
     def listdir(folder):
-        shards.put_list("shards", [])
+        if not shards.is_folder("shards"):
+            shards.put_list("shards", [])
         return look(folder)
 
     (folders / "shards").mkdir()

@@ -18,6 +18,7 @@ from exifnorm_pictures.fields.labels import LABELS, fields_by_label
 from exifnorm_pictures.model import budgets
 from exifnorm_pictures.model.budgets import LIMITS
 from exifnorm_pictures.model.found import XMP
+from exifnorm_pictures.model.problems import Follows, Problem
 from exifnorm_pictures.model.texts import Result, Word
 from exifnorm_pictures.refusals import explain
 from exifnorm_pictures.refusals.causes import CAUSES, OTHER_REMEDIES, XMP_REMEDIES, words_of
@@ -33,7 +34,11 @@ def members():
     for kind in sorted(Word.__subclasses__(), key=lambda it: it.__module__):
         if getattr(sys.modules[kind.__module__], kind.__name__, None) is kind:
             for it in kind:
-                yield kind.__name__, it, *(getattr(it, name) for name in kind.__dict__.get("__annotations__", {}))
+                values = [getattr(it, name) for name in kind.__dict__.get("__annotations__", {})]
+                if kind is Problem:
+                    bits = [name for name, bit in vars(Follows).items() if name.isupper() and bit & it.follows]
+                    values[values.index(it.follows)] = "|".join(bits) or "NOTHING"
+                yield kind.__name__, it, *values
 
 
 def test_each_row(golden):
