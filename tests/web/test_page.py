@@ -394,6 +394,13 @@ STOP_ONCE = """new Promise((done) => {
 })"""
 
 
+def dropped_and_stopped(browser, condition, *folders):
+    """Drops folders, and stops the page as soon as a condition is true, which it may be for a moment after the drop."""
+    browser.ask(f"self.stopped = {STOP_ONCE % condition}; 0")
+    browser.drop("#slot-0", *folders)
+    browser.ask("self.stopped")
+
+
 def test_many_pictures(browser, folder):
     """Stop while two folders are listed, and in the middle of their pictures; and the rows of a list, as many as are asked for."""
     for side, pictures in (("first", (VASE, BOWL)), ("second", (VASE, BOWL_AFTER))):
@@ -402,17 +409,16 @@ def test_many_pictures(browser, folder):
             path = folder / side / f"{number // 100}" / f"{number}.jpg"
             path.parent.mkdir(parents=True, exist_ok=True)
             os.link(copies[number % 50 == 0], path)
-    browser.drop("#slot-0", folder / "first", folder / "second")
-    browser.ask(STOP_ONCE % "!progress.hasAttribute('value') && status.textContent.startsWith('Listing the folder first: ')")
+    folders = folder / "first", folder / "second"
+    dropped_and_stopped(browser, "!progress.hasAttribute('value') && status.textContent.startsWith('Listing the folder first: ')", *folders)
     browser.wait("document.getElementById('status').textContent.startsWith('Stopped: the folder was not listed')")
     assert browser.ask("document.getElementById('running').hidden") and not browser.ask("chosen.some(Boolean)")
-    browser.drop("#slot-0", folder / "first", folder / "second")
-    browser.ask(STOP_ONCE % f"progress.max === {MANY} && progress.value > 5")
+    dropped_and_stopped(browser, f"progress.max === {MANY} && progress.value > 5", *folders)
     heading(browser)
     assert f"Stopped before the end: there are {MANY} files." in text(browser) and "same metadata" in text(browser)
     assert not browser.ask("document.body.dataset.state = ''") and browser.ask("document.getElementById('running').hidden")
     browser.ask("document.getElementById('anew').click()")
-    assert compare_folders(browser, folder / "first", folder / "second") == f"{MANY // 50} different, {MANY - MANY // 50} same metadata"
+    assert compare_folders(browser, *folders) == f"{MANY // 50} different, {MANY - MANY // 50} same metadata"
     browser.ask("document.querySelector('[data-filter=same]').click()")
     assert len(rows(browser, "Same metadata")) == 300
     browser.ask("document.querySelector('.more').click()")
