@@ -7,8 +7,8 @@ from pathlib import Path
 from typing import Iterator
 
 PACKAGE = Path(__file__).resolve().parents[2] / "python" / "exifnorm_pictures"
-STATEMENTS = 19_926  # without docstrings
-TOKENS = 239_247  # more on one line is no way to have fewer statements
+STATEMENTS = 19_918  # without docstrings
+TOKENS = 239_223  # more on one line is no way to have fewer statements
 OVER_TEN, OVER_TWENTY = 54, 0  # functions with more branches
 _LAYOUT = (tokenize.COMMENT, tokenize.NL, tokenize.NEWLINE, tokenize.INDENT, tokenize.DEDENT, tokenize.ENDMARKER)
 _FUNCTIONS = (ast.FunctionDef, ast.AsyncFunctionDef)
