@@ -270,6 +270,23 @@ def test_what_a_killed_run_left_is_removed_by_the_next_one(
     assert left() == [".exifnorm-abcd_123.part"] and pages_of(small / "other").keys() == {"index.html"}
 
 
+def test_a_run_that_begins_while_another_one_looks_keeps_its_folder(small: Path, monkeypatch: pytest.MonkeyPatch) -> None:
+    """It makes and locks its list once the other has seen that the folder has none."""
+    begun, locks, scan = small / ".exifnorm-abcd_123.part", [], os.scandir
+    begun.mkdir()
+
+    def scandir(folder: Any) -> Any:
+        entries = scan(folder)
+        if isinstance(folder, int) and not locks:
+            locks.append(atomic.locked(os.open(begun / "exifnorm-report", os.O_RDWR | os.O_CREAT)))
+        return entries
+
+    monkeypatch.setattr(os, "scandir", scandir)
+    with folders.replaced(os.fsencode(small / "other"), "exifnorm-report", ["c"]):
+        assert os.listdir(begun) == ["exifnorm-report"]
+    os.close(locks[0])
+
+
 def test_a_share_whose_locks_reach_no_other_machine(small: Path, called: Called, monkeypatch: pytest.MonkeyPatch) -> None:
     """A run there takes what one that lives has not written yet for that of a killed one: that run says so, and what it was to replace stays."""
     monkeypatch.setattr(fcntl, "flock", lambda *_: None)
