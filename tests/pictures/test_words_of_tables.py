@@ -36,8 +36,9 @@ def members():
             for it in kind:
                 values = [getattr(it, name) for name in kind.__dict__.get("__annotations__", {})]
                 if kind is Problem:
-                    bits = [name for name, bit in vars(Follows).items() if name.isupper() and bit & it.follows]
-                    values[values.index(it.follows)] = "|".join(bits) or "NOTHING"
+                    values[values.index(it.follows)] = (
+                        "|".join(name for name, bit in vars(Follows).items() if name.isupper() and bit & it.follows) or "NOTHING"
+                    )
                 yield kind.__name__, it, *values
 
 
